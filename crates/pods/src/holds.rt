@@ -1,0 +1,6 @@
+// What a container holds: pods, or pods that each stand after a key and flags.
+#[derive(Clone, Copy)]
+pub enum Holds {
+    Fields,
+    Properties,
+}

@@ -1,0 +1,4 @@
+pub mod Steps
+pub mod Ascii
+pub mod Text
+pub mod Classes

@@ -1,0 +1,2 @@
+pub mod Table37
+pub mod Reading
