@@ -1,5 +1,5 @@
 // Reads a cue from standard input, and prints how many bytes it uses, or why and where it is refused.
-use pods::survey;
+use format::survey;
 use std::error::AnyError;
 use std::io;
 use std::io::Read;

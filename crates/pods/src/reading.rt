@@ -1,12 +1,13 @@
 // Pods in containers in pods: reading a pod and reading a container lead into each other.
 ghost use mathlib.Core.Path.{_≡_};
 ghost use Prim.Native.Nat.{ℕ, _+_, _-_, _*_, _^_, _<_, _≤_};
+ghost use lib.Dec.{ltb};
 ghost use lib.ListN.{length};
 ghost use Rattle.std.specs.Results.{Cases};
 ghost use Rattle.std.specs.Vec.{made};
 ghost use Rattle.pods.specs.Trees.{count, counts};
 ghost use Rattle.pods.specs.Outcomes.{mapped, refused, taken};
-ghost use Rattle.pods.specs.Pods.{ahead, items, pod as podOf};
+ghost use Rattle.pods.specs.Pods.{ahead, items, pod as podOf, spotAt};
 ghost use Rattle.pods.specs.Survey.{answered, Remains, surveyOf};
 use crate::holds::Holds;
 use crate::leaves::leaf;
@@ -15,14 +16,17 @@ use refusals::Spot;
 use refusals::Why;
 use words::two_words;
 
-const LIMIT: usize = 65536;
+// The most bytes that a cue may have, and the most depths.
+const LIMIT: usize = 65_536;
+
+const ROOM: u32 = 32;
 
 const STRUCT: u32 = 14;
 
 const OBJECT: u32 = 15;
 
 // How many rows a cue has, one for each pod, and how many bytes it uses.
-#[derive(Clone, Copy, PartialEq, Eq, Debug)]
+#[derive(Clone, Copy, PartialEq, Eq)]
 pub struct Surveyed {
     pub rows: usize,
     pub used: usize,
@@ -33,11 +37,29 @@ pub fn survey(bytes: &[u8]) -> Result<Surveyed, Refusal>
     ensures answer { λ r. ⌜ answered r ≡ surveyOf (now (bytes .entry)) ⌝ }
     ensures within { λ r. ⌜ made r (λ s. (s .used ≤ length (now (bytes .entry))) × (8 * s .rows ≤ s .used)) ⌝ }
 {
-    if bytes.len() > LIMIT {
-        let start = Spot { place: 0, depth: 1 };
+    if too_long(bytes) {
+        let start = spot_at(0, ROOM);
         return Err(start.refuse(Why::TooLong));
     }
-    pod(bytes, 0, 32)
+    pod(bytes, 0, ROOM)
+}
+
+// Whether there are more bytes than a cue may have.
+fn too_long(bytes: &[u8]) -> bool
+    ensures { λ r. ⌜ r ≡ ltb 65536 (length (now (bytes .entry))) ⌝ }
+{
+    bytes.len() > LIMIT
+}
+
+// Where a pod stands that is begun with `room` depths left.
+fn spot_at(place: usize, room: u32) -> Spot
+    requires { ⌜ room ≤ 32 ⌝ }
+    ensures { λ r. ⌜ r ≡ spotAt place (33 - room) ⌝ }
+{
+    Spot {
+        place,
+        depth: ROOM + 1 - room,
+    }
 }
 
 // What is left of `bytes` after the cue at their front.
@@ -55,10 +77,7 @@ fn pod(input: &[u8], place: usize, room: u32) -> Result<Surveyed, Refusal>
     requires short { ⌜ place + length (now input) < 2 ^ 64 ⌝ }
     ensures { λ r. ⌜ answered r ≡ mapped count (podOf room (33 - room) place (now (input .entry))) ⌝ }
 {
-    let spot = Spot {
-        place,
-        depth: 33 - room,
-    };
+    let spot = spot_at(place, room);
     if room == 0 {
         return Err(spot.refuse(Why::TooDeep));
     }
@@ -123,13 +142,20 @@ fn container(
         let keyed = key_and_flags(holds, &input[used..], spot)?;
         let start = used + keyed;
         let next = pod(&input[start..], from + start, room)?;
-        if next.used + keyed > len - used {
+        if exceeds(next.used + keyed, len - used) {
             return Err(spot.refuse(Why::PastContainer));
         }
         rows += next.rows;
         used = start + next.used;
     }
     Ok(Surveyed { rows, used })
+}
+
+// Whether what takes `used` bytes is longer than the bytes that are left.
+fn exceeds(used: usize, left: usize) -> bool
+    ensures { λ r. ⌜ r ≡ ltb left used ⌝ }
+{
+    used > left
 }
 
 // The bytes of the key and flags at the front of `input`, which stand before the pods of an object.

@@ -1,6 +1,6 @@
 // Why something is refused, and where.
 ghost use mathlib.Core.Path.{_≡_};
-ghost use Rattle.refusals.specs.Refusals.{number as numberOf};
+ghost use Rattle.refusals.specs.Refusals.{number as numberOf, sortOf};
 
 // The reasons, with the values that go with them.
 #[derive(Clone, Copy)]
@@ -39,6 +39,19 @@ pub enum Why {
     VisitorRefused(u32),
     EndTooEarly,
     NoElementLeft,
+}
+
+// The cases of the error type of crate libspa, and one for what that crate does not refuse.
+#[derive(Clone, Copy, PartialEq, Eq)]
+pub enum Sort {
+    Nom,
+    UnsupportedType,
+    InvalidType,
+    PropertyMissing,
+    PropertyWrongKey,
+    InvalidChoiceType,
+    MissingChoiceValues,
+    Unknown,
 }
 
 // Where a pod's header stands, and how deep the pod is; the outermost has depth 1.
@@ -90,6 +103,26 @@ impl Why {
             Why::VisitorRefused(_) => 29,
             Why::EndTooEarly => 30,
             Why::NoElementLeft => 31,
+        }
+    }
+
+    // The case of the crate's error type that a refusal is.
+    pub fn sort(self) -> Sort
+        ensures { λ r. ⌜ r ≡ sortOf self ⌝ }
+    {
+        match self {
+            Why::Missing
+            | Why::OtherType
+            | Why::ChildSize
+            | Why::NoClosingZero
+            | Why::NotUtf8 => Sort::Nom,
+            Why::UnknownType => Sort::InvalidType,
+            Why::ChoiceType => Sort::InvalidChoiceType,
+            Why::TooFewValues => Sort::MissingChoiceValues,
+            Why::NoProperty => Sort::PropertyMissing,
+            Why::OtherKey(_) => Sort::PropertyWrongKey,
+            Why::VisitorRefused(_) => Sort::UnsupportedType,
+            _ => Sort::Unknown,
         }
     }
 }

@@ -1,10 +1,10 @@
 -- Words in a part of the bytes. Assumes nothing.
 use mathlib.Core.Path.{_≡_, refl, sym, ap, _∙_}
 use mathlib.Core.List.{List}
-use Prim.Native.Nat.{ℕ, zero, suc, _+_, _≤_}
-use native.Mathlib.Nat.{add-suc}
+use Prim.Native.Nat.{ℕ, zero, suc, _+_, _≤_, _<_}
+use native.Mathlib.Nat.{add-suc, add-zero}
 use native.Mathlib.Omega.{arith}
-use lib.ListN.{length, drop, length-drop}
+use lib.ListN.{length, getD, drop, length-drop}
 use Rattle.std.proofs.shelf.Lists.{getD-drop, drop-drop}
 use Rattle.words.specs.Words.{little, Halves}
 
@@ -12,6 +12,15 @@ use Rattle.words.specs.Words.{little, Halves}
 pub little-drop : (n m k : ℕ) (bytes : List ℕ) → little n k (drop m bytes) ≡ little n (m + k) bytes
 little-drop zero m k bytes = refl
 little-drop (suc n) m k bytes = rw (getD-drop m bytes k 0, little-drop n m (suc k) bytes, add-suc m k)
+
+pub little-front : (n m : ℕ) (bytes : List ℕ) → little n 0 (drop m bytes) ≡ little n m bytes
+little-front n m bytes = little-drop n m 0 bytes ∙ ap (λ k. little n k bytes) (add-zero m)
+
+-- a word is that of its bytes alone
+pub little-same : (n k : ℕ) (bytes bytes′ : List ℕ) → ((x : ℕ) → x < k + n → getD bytes′ x 0 ≡ getD bytes x 0) → little n k bytes′ ≡ little n k bytes
+little-same zero k bytes bytes′ h = refl
+little-same (suc n) k bytes bytes′ h =
+    rw (h k (omega arith), little-same n (suc k) bytes bytes′ (λ x l. h x (omega arith)))
 
 -- the first sixteen bytes as four words
 pub record Quarters (bytes : List ℕ) (third fourth : ℕ) (rest : List ℕ) : Type 0 where

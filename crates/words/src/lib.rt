@@ -3,7 +3,7 @@ ghost use mathlib.Core.Path.{_≡_};
 ghost use Prim.Native.Nat.{_<_, _≤_};
 ghost use lib.ListN.{length};
 ghost use Rattle.std.specs.Options.{Cases as BySome};
-ghost use Rattle.words.specs.Words.{Halves, padded as paddedOf};
+ghost use Rattle.words.specs.Words.{Halves, little, padded as paddedOf};
 
 // Two words of 32 bits, and the bytes after them.
 #[derive(Clone, Copy)]
@@ -11,6 +11,13 @@ pub struct Pair<'a> {
     pub first: u32,
     pub second: u32,
     pub rest: &'a [u8],
+}
+
+// The word of four bytes, the least significant first.
+fn word(bytes: [u8; 4]) -> u32
+    ensures { λ r. ⌜ r ≡ little 4 0 bytes ⌝ }
+{
+    u32::from_le_bytes(bytes)
 }
 
 // The two words at the front of `input`, or nothing where fewer than eight bytes are there.
@@ -21,8 +28,8 @@ pub fn two_words(input: &[u8]) -> Option<Pair<'_>>
         return None;
     };
     Some(Pair {
-        first: u32::from_le_bytes([*a, *b, *c, *d]),
-        second: u32::from_le_bytes([*e, *f, *g, *h]),
+        first: word([*a, *b, *c, *d]),
+        second: word([*e, *f, *g, *h]),
         rest,
     })
 }

@@ -1,0 +1,7 @@
+pub mod Values
+pub mod Sound
+pub mod Complete
+pub mod Trees
+pub mod Ahead
+pub mod Reading
+pub mod Chains

@@ -1,0 +1,4 @@
+pub mod Layout
+pub mod Laws
+pub mod Places
+pub mod Lines
