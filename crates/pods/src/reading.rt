@@ -7,7 +7,7 @@ ghost use Rattle.std.specs.Results.{Cases};
 ghost use Rattle.std.specs.Vec.{made};
 ghost use Rattle.pods.specs.Trees.{count, counts};
 ghost use Rattle.pods.specs.Outcomes.{mapped, refused, taken};
-ghost use Rattle.pods.specs.Pods.{ahead, items, pod as podOf, spotAt};
+ghost use Rattle.pods.specs.Pods.{ahead, items, pod as podOf};
 ghost use Rattle.pods.specs.Survey.{answered, Remains, surveyOf};
 use crate::holds::Holds;
 use crate::leaves::leaf;
@@ -38,7 +38,7 @@ pub fn survey(bytes: &[u8]) -> Result<Surveyed, Refusal>
     ensures within { λ r. ⌜ made r (λ s. (s .used ≤ length (now (bytes .entry))) × (8 * s .rows ≤ s .used)) ⌝ }
 {
     if too_long(bytes) {
-        let start = spot_at(0, ROOM);
+        let start = Spot { place: 0, depth: 1 };
         return Err(start.refuse(Why::TooLong));
     }
     pod(bytes, 0, ROOM)
@@ -49,17 +49,6 @@ fn too_long(bytes: &[u8]) -> bool
     ensures { λ r. ⌜ r ≡ ltb 65536 (length (now (bytes .entry))) ⌝ }
 {
     bytes.len() > LIMIT
-}
-
-// Where a pod stands that is begun with `room` depths left.
-fn spot_at(place: usize, room: u32) -> Spot
-    requires { ⌜ room ≤ 32 ⌝ }
-    ensures { λ r. ⌜ r ≡ spotAt place (33 - room) ⌝ }
-{
-    Spot {
-        place,
-        depth: ROOM + 1 - room,
-    }
 }
 
 // What is left of `bytes` after the cue at their front.
@@ -77,7 +66,10 @@ fn pod(input: &[u8], place: usize, room: u32) -> Result<Surveyed, Refusal>
     requires short { ⌜ place + length (now input) < 2 ^ 64 ⌝ }
     ensures { λ r. ⌜ answered r ≡ mapped count (podOf room (33 - room) place (now (input .entry))) ⌝ }
 {
-    let spot = spot_at(place, room);
+    let spot = Spot {
+        place,
+        depth: ROOM + 1 - room,
+    };
     if room == 0 {
         return Err(spot.refuse(Why::TooDeep));
     }

@@ -111,11 +111,8 @@ impl Why {
         ensures { λ r. ⌜ r ≡ sortOf self ⌝ }
     {
         match self {
-            Why::Missing
-            | Why::OtherType
-            | Why::ChildSize
-            | Why::NoClosingZero
-            | Why::NotUtf8 => Sort::Nom,
+            Why::Missing | Why::OtherType | Why::ChildSize | Why::NoClosingZero | Why::NotUtf8 =>
+                Sort::Nom,
             Why::UnknownType => Sort::InvalidType,
             Why::ChoiceType => Sort::InvalidChoiceType,
             Why::TooFewValues => Sort::MissingChoiceValues,

@@ -4,6 +4,7 @@ use native.Mathlib.Omega.{arith}
 use borrow.Author.Needs.{needs}
 use lib.ListN.{length, length-drop}
 use Rattle.std.proofs.shelf.Results.{err-from-errBy}
+use Rattle.std.proofs.shelf.Tests.{ltb-true, ltb-false}
 use Rattle.pods.specs.Trees.{count}
 use Rattle.pods.specs.Outcomes.{gave, mapped, after}
 use Rattle.pods.specs.declared.holds.Holds.the-variants.{Fields, Properties}
@@ -30,11 +31,11 @@ container-add-next t c =
     let b = bounded (c .args .holds) (c .args .room) (c .args .spot) (c .args .len) (c .args .from) (c .args .input .now) (c .loop-used .used) _ _ (its-pod (c .args .holds) (c .args .room) (c .args .spot) (c .args .len) (c .args .from) (c .args .input .now) (c .loop-used .used) _ _ (c .in-Continue-keyed .ensures tt) (c .in-Continue-next .ensures tt)) in
     omega arith
 
-pub container-returns-then-next-keyed : need.container-returns-then-next-keyed
-container-returns-then-next-keyed t c =
+pub container-returns-then-exceeds : need.container-returns-then-exceeds
+container-returns-then-exceeds t c =
     rw (c .refuse .ensures)
     (exceeds-at (c .args .holds) (c .args .room) (c .args .spot) (c .args .len) (c .args .from) (c .args .input .now) (c .loop-used .rows) (c .loop-used .used) _ _ (c .loop-used .inv .3) (c .loop-used-test .taken)
-    (its-pod (c .args .holds) (c .args .room) (c .args .spot) (c .args .len) (c .args .from) (c .args .input .now) (c .loop-used .used) _ _ (c .in-Continue-keyed .ensures tt) (c .in-Continue-next .ensures tt)) (c .if-next-keyed .taken))
+    (its-pod (c .args .holds) (c .args .room) (c .args .spot) (c .args .len) (c .args .from) (c .args .input .now) (c .loop-used .used) _ _ (c .in-Continue-keyed .ensures tt) (c .in-Continue-next .ensures tt)) (ltb-true _ _ (sym (c .exceeds .ensures) ∙ c .if-exceeds .taken)))
 
 pub container-add-rows : need.container-add-rows
 container-add-rows t c =
@@ -48,12 +49,13 @@ container-loop-used-less t c =
 
 pub container-loop-used-again : need.container-loop-used-again
 container-loop-used-again t c =
+    let fits = ltb-false _ _ (sym (c .exceeds .ensures) ∙ c .if-exceeds .left) in
     let read = its-pod (c .args .holds) (c .args .room) (c .args .spot) (c .args .len) (c .args .from) (c .args .input .now) (c .loop-used .used) _ _ (c .in-Continue-keyed .ensures tt) (c .in-Continue-next .ensures tt) in
     let b = bounded (c .args .holds) (c .args .room) (c .args .spot) (c .args .len) (c .args .from) (c .args .input .now) (c .loop-used .used) _ _ read in (
       omega arith,
       omega arith,
       omega arith,
-      goes-on (c .args .holds) (c .args .room) (c .args .spot) (c .args .len) (c .args .from) (c .args .input .now) (c .loop-used .rows) (c .loop-used .used) _ _ _ (c .loop-used .inv .3) (c .loop-used-test .taken) read (c .if-next-keyed .left) (omega arith),
+      goes-on (c .args .holds) (c .args .room) (c .args .spot) (c .args .len) (c .args .from) (c .args .input .now) (c .loop-used .rows) (c .loop-used .used) _ _ _ (c .loop-used .inv .3) (c .loop-used-test .taken) read fits (omega arith),
     )
 
 pub container-returns : need.container-returns

@@ -1,6 +1,5 @@
 use mathlib.Core.Path.{_≡_, sym, _∙_}
 use lib.ListN.{length}
-use Rattle.std.proofs.shelf.Tests.{le-ltb}
 use Rattle.pods.specs.Pods.{pod}
 use Rattle.pods.proofs.Sizes.{pod-sized}
 use Rattle.pods.proofs.Starts.{within}
@@ -10,6 +9,6 @@ use Rattle.pods.proofs.reading.survey.Needs as need
 pub returns : need.returns
 returns c =
     record {
-      answer = rw (le-ltb 65536 (length (c .args .bytes .now)) (c .if-bytes-gt-LIMIT .left)) (c .pod .ensures ∙ sym (counted (pod 32 1 0 (c .args .bytes .now))));
+      answer = rw (sym (c .too-long .ensures) ∙ c .if-too-long .left) (c .pod .ensures ∙ sym (counted (pod 32 1 0 (c .args .bytes .now))));
       within = within (length (c .args .bytes .now)) (c .pod .result) (pod 32 1 0 (c .args .bytes .now)) (pod-sized 32 1 0 (c .args .bytes .now)) (c .pod .ensures);
     }
