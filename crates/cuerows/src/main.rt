@@ -1,5 +1,5 @@
-// Reads a cue from standard input, and prints how many bytes it uses, or why and where it is refused.
-use format::survey;
+// Reads a cue from standard input, and prints its rows and how many bytes it uses, or why and where it is refused.
+use listing::listing;
 use std::error::AnyError;
 use std::io;
 use std::io::Read;
@@ -11,23 +11,9 @@ fn input(rt: &LibcRuntime) -> io::Result<Vec<u8>> {
     Ok(bytes)
 }
 
-fn show(rt: &LibcRuntime, bytes: &[u8]) -> io::Result<()> {
-    match survey(bytes) {
-        Ok(found) => {
-            let used = found.used;
-            println!(rt, "end {used}")
-        }
-        Err(refusal) => {
-            let number = refusal.why.number();
-            let place = refusal.spot.place;
-            let depth = refusal.spot.depth;
-            println!(rt, "refused {number} {place} {depth}")
-        }
-    }
-}
-
 fn main(rt: LibcRuntime) -> Result<(), AnyError> {
     let bytes = input(&rt)?;
-    show(&rt, &bytes)?;
+    let lines = listing(rt.alloc(), &bytes)?;
+    print!(rt, "{lines}")?;
     Ok(())
 }

@@ -12,8 +12,8 @@ use Rattle.kinds.specs.declared.kind.Kind.{Kind}
 use Rattle.kinds.specs.Kinds.{sizeOf, said}
 use Rattle.pods.specs.declared.choices.ChoiceType.{ChoiceType}
 use Rattle.pods.specs.declared.choices.ChoiceType.the-variants.{None as NoChoice, Range, Step, Enum, Flags}
-use Rattle.pods.specs.declared.holds.Holds.{Holds}
-use Rattle.pods.specs.declared.holds.Holds.the-variants.{Fields, Properties}
+use Rattle.pods.specs.declared.holding.Holds.{Holds}
+use Rattle.pods.specs.declared.holding.Holds.the-variants.{Fields, Properties}
 use Rattle.pods.specs.Choices.{needed, usedOf, flagsKept}
 use Rattle.pods.specs.Trees.{Tree, Forest, Leaf, fixed, text, raw, array, choice, pointer, leaf, struct, object, none, more, past, total, totals}
 use Rattle.format.specs.Layout.{wordAt, Stand, Values, FixedLaid, TextLaid, RawLaid, ArrayLaid, ChoiceLaid, PointerLaid, BodyLaid, Header, declared, Named, Laid, AllLaid}

@@ -14,8 +14,8 @@ use Rattle.kinds.specs.declared.kind.Kind.{Kind}
 use Rattle.kinds.specs.declared.kind.Kind.the-variants.{None, Bool as BoolKind, Id, Int, Long, Float, Double, Rectangle, Fraction, Fd}
 use Rattle.kinds.specs.Kinds.{typeOf}
 use Rattle.pods.specs.declared.rows.Row.{Row}
-use Rattle.pods.specs.declared.holds.Holds.{Holds}
-use Rattle.pods.specs.declared.holds.Holds.the-variants.{Fields, Properties}
+use Rattle.pods.specs.declared.holding.Holds.{Holds}
+use Rattle.pods.specs.declared.holding.Holds.the-variants.{Fields, Properties}
 use Rattle.pods.specs.Trees.{Tree, Forest, Leaf, fixed, text, raw, array, choice, pointer, leaf, struct, object, none, more, past, total, totals, count, counts}
 use Rattle.pods.specs.Rows.{Above, leafType, lockedOf, leafRow, openRow, rows, rowsOf, top}
 use Rattle.pods.specs.Survey.{rowsIn}

@@ -50,7 +50,7 @@ module _ (bytes : List ℕ) (short : length bytes ≤ 65536) where
       ∙ ap (gave t) (h .whole)
 
 -- what a survey counts is there
-counted : (o : Outcome Tree) (rows used : ℕ) → mapped (λ t. length (rowsIn t)) o ≡ gave rows used → (t : Tree) × (o ≡ gave t used) × (length (rowsIn t) ≡ rows)
+pub counted : (o : Outcome Tree) (rows used : ℕ) → mapped (λ t. length (rowsIn t)) o ≡ gave rows used → (t : Tree) × (o ≡ gave t used) × (length (rowsIn t) ≡ rows)
 counted (gave t u) rows used e =
     let same : u ≡ used = cc in
     let rs : length (rowsIn t) ≡ rows = cc in
@@ -70,7 +70,7 @@ survey-accepts-laid bytes short =
     }
 
 -- a survey that accepts has no more bytes than the limit
-accepted-short : (bytes : List ℕ) (rows used : ℕ) → surveyOf bytes ≡ gave rows used → length bytes ≤ 65536
+pub accepted-short : (bytes : List ℕ) (rows used : ℕ) → surveyOf bytes ≡ gave rows used → length bytes ≤ 65536
 accepted-short bytes rows used e =
     given-at (λ _ _. length bytes ≤ 65536) (surveyOf bytes) rows used
     (mapped-given (says bytes) (given-if (λ _ _. length bytes ≤ 65536) (ltb 65536 (length bytes)) _ (spotAt 0 1) (pod 32 1 0 bytes) (λ z. all (pod 32 1 0 bytes) (ltb-false 65536 (length bytes) z)))) e

@@ -16,8 +16,8 @@ use Rattle.words.proofs.Places.{little-drop, little-front}
 use Rattle.kinds.specs.declared.kind.Kind.{Kind}
 use Rattle.kinds.specs.declared.kind.Kind.the-variants.{None, Bool as BoolKind, Id, Int, Long, Float, Double, Rectangle, Fraction, Fd}
 use Rattle.kinds.specs.Kinds.{typeOf}
-use Rattle.pods.specs.declared.holds.Holds.{Holds}
-use Rattle.pods.specs.declared.holds.Holds.the-variants.{Fields, Properties}
+use Rattle.pods.specs.declared.holding.Holds.{Holds}
+use Rattle.pods.specs.declared.holding.Holds.the-variants.{Fields, Properties}
 use Rattle.pods.specs.Trees.{Tree, Forest, Leaf, fixed, text, raw, array, choice, pointer, leaf, struct, object, none, more, past, total, totals, deep, deepest}
 use Rattle.pods.specs.Rows.{leafType}
 use Rattle.pods.specs.Outcomes.{Outcome, gave, refused, refuse-if, mapped, after}

@@ -10,8 +10,8 @@ use Rattle.utf8.specs.Table37.{wellFormed}
 use Rattle.kinds.specs.declared.kind.Kind.{Kind}
 use Rattle.kinds.specs.Kinds.{typeOf, sizeOf, said}
 use Rattle.pods.specs.declared.choices.ChoiceType.{ChoiceType}
-use Rattle.pods.specs.declared.holds.Holds.{Holds}
-use Rattle.pods.specs.declared.holds.Holds.the-variants.{Fields, Properties}
+use Rattle.pods.specs.declared.holding.Holds.{Holds}
+use Rattle.pods.specs.declared.holding.Holds.the-variants.{Fields, Properties}
 use Rattle.pods.specs.Choices.{choiceNumber, needed, usedOf, flagsKept}
 use Rattle.pods.specs.Trees.{Tree, Forest, Leaf, fixed, text, raw, array, choice, pointer, leaf, struct, object, none, more, past, total, totals}
 use Rattle.pods.specs.Rows.{leafType}

@@ -6,8 +6,8 @@ use Prim.Native.Nat.{ℕ, suc, _+_, _<_}
 use lib.Dec.{eqb}
 use lib.ListN.{length, getD}
 use Rattle.pods.specs.declared.rows.Row.{Row}
-use Rattle.pods.specs.declared.holds.Holds.{Holds}
-use Rattle.pods.specs.declared.holds.Holds.the-variants.{Fields, Properties}
+use Rattle.pods.specs.declared.holding.Holds.{Holds}
+use Rattle.pods.specs.declared.holding.Holds.the-variants.{Fields, Properties}
 use Rattle.pods.specs.Trees.{Tree, past}
 use Rattle.pods.specs.Outcomes.{gave}
 use Rattle.pods.specs.Survey.{says, rowsIn}

@@ -9,8 +9,10 @@ ghost use mir.Val.{toZ};
 ghost use Rattle.kinds.specs.declared.kind.Kind.{Kind as Sort};
 ghost use Rattle.kinds.specs.declared.kind.Kind.the-variants.{None as NoneKind, Bool as BoolKind, Id as IdKind, Int as IntKind, Long as LongKind, Float as FloatKind, Double as DoubleKind, Rectangle as RectangleKind, Fraction as FractionKind, Fd as FdKind};
 ghost use Rattle.kinds.specs.Kinds.{sizeOf, typeOf};
-ghost use Rattle.kinds.specs.Bodies.{bodyRead, numberRead};
+ghost use Rattle.kinds.specs.Bodies.{bodyRead};
 use crate::kind::Kind;
+use crate::numbers::number32;
+use crate::numbers::number64;
 use crate::utils::Fd;
 use crate::utils::Fraction;
 use crate::utils::Id;
@@ -45,26 +47,6 @@ pub trait CanonicalFixedSizedPod: Sized {
     // The value at the front of `body`, which may go on after it.
     fn deserialize_body(body: &[u8]) -> Result<Self, Why>
         ensures { λ r. ⌜ r ≡ bodyRead kind means (now (body .entry)) ⌝ };
-}
-
-// The 32-bit number at the front of `body`.
-fn number32(body: &[u8]) -> Result<u32, Why>
-    ensures { λ r. ⌜ r ≡ numberRead 4 (now (body .entry)) ⌝ }
-{
-    let [a, b, c, d, ..] = body else {
-        return Err(Why::Missing);
-    };
-    Ok(u32::from_le_bytes([*a, *b, *c, *d]))
-}
-
-// The 64-bit number at the front of `body`.
-fn number64(body: &[u8]) -> Result<u64, Why>
-    ensures { λ r. ⌜ r ≡ numberRead 8 (now (body .entry)) ⌝ }
-{
-    let [a, b, c, d, e, f, g, h, ..] = body else {
-        return Err(Why::Missing);
-    };
-    Ok(u64::from_le_bytes([*a, *b, *c, *d, *e, *f, *g, *h]))
 }
 
 // A pair's first number stands in the low half of its word.

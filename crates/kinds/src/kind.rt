@@ -1,6 +1,10 @@
 // The kinds, by number and size.
 ghost use mathlib.Core.Path.{_≡_};
+ghost use Rattle.kinds.specs.Bodies.{bodyRead};
 ghost use Rattle.kinds.specs.Kinds.{kindOf, sizeOf, typeOf};
+use crate::numbers::number32;
+use crate::numbers::number64;
+use refusals::Why;
 
 #[derive(Clone, Copy, PartialEq, Eq)]
 pub enum Kind {
@@ -62,6 +66,26 @@ impl Kind {
             Kind::None => 0,
             Kind::Bool | Kind::Id | Kind::Int | Kind::Float => 4,
             Kind::Long | Kind::Double | Kind::Rectangle | Kind::Fraction | Kind::Fd => 8,
+        }
+    }
+
+    // The word at the front of `body`, which may go on after it.
+    pub fn word(self, body: &[u8]) -> Result<u64, Why>
+        ensures { λ r. ⌜ r ≡ bodyRead self (λ w. w) (now (body .entry)) ⌝ }
+    {
+        match self {
+            Kind::None => Ok(0),
+            Kind::Bool => {
+                let number = number32(body)?;
+                Ok(if number == 0 { 0 } else { 1 })
+            }
+            Kind::Id | Kind::Int | Kind::Float => {
+                let number = number32(body)?;
+                Ok(number as u64)
+            }
+            Kind::Long | Kind::Double | Kind::Rectangle | Kind::Fraction | Kind::Fd => number64(
+                body,
+            ),
         }
     }
 }

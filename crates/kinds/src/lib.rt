@@ -1,6 +1,7 @@
 // The ten kinds of pods whose bodies have a fixed size.
 mod canonical;
 mod kind;
+mod numbers;
 mod utils;
 
 pub use canonical::BoolPod;

@@ -17,8 +17,8 @@ use Rattle.utf8.specs.Table37.{wellFormed}
 use Rattle.kinds.specs.declared.kind.Kind.{Kind}
 use Rattle.kinds.specs.Kinds.{kindOf, sizeOf}
 use Rattle.pods.specs.declared.choices.ChoiceType.{ChoiceType}
-use Rattle.pods.specs.declared.holds.Holds.{Holds}
-use Rattle.pods.specs.declared.holds.Holds.the-variants.{Fields, Properties}
+use Rattle.pods.specs.declared.holding.Holds.{Holds}
+use Rattle.pods.specs.declared.holding.Holds.the-variants.{Fields, Properties}
 use Rattle.pods.specs.Choices.{choiceTypeOf, needed}
 use Rattle.pods.specs.Trees.{Tree, Forest, Leaf, struct, object, past, total, totals, count, counts}
 use Rattle.pods.specs.Outcomes.{Outcome, gave, refused, refuse-if, refuse-unless, mapped, after}

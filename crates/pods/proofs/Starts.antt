@@ -14,8 +14,8 @@ use Rattle.refusals.specs.declared.Refusal.{Refusal}
 use Rattle.refusals.specs.declared.Spot.{Spot}
 use Rattle.refusals.specs.declared.Why.the-variants.{Missing, TooShort, TooDeep}
 use Rattle.words.specs.Words.{Halves}
-use Rattle.pods.specs.declared.holds.Holds.{Holds}
-use Rattle.pods.specs.declared.holds.Holds.the-variants.{Fields, Properties}
+use Rattle.pods.specs.declared.holding.Holds.{Holds}
+use Rattle.pods.specs.declared.holding.Holds.the-variants.{Fields, Properties}
 use Rattle.pods.specs.declared.reading.Surveyed.{Surveyed}
 use Rattle.pods.specs.Trees.{Tree, Forest, Leaf, struct, object, count, counts}
 use Rattle.pods.specs.Outcomes.{Outcome, gave, refused, refuse, mapped, after, sized}

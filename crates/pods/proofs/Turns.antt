@@ -13,8 +13,8 @@ use Rattle.refusals.specs.declared.Refusal.{Refusal}
 use Rattle.refusals.specs.declared.Spot.{Spot}
 use Rattle.refusals.specs.declared.Why.the-variants.{Missing, PastContainer}
 use Rattle.words.specs.Words.{little}
-use Rattle.pods.specs.declared.holds.Holds.{Holds}
-use Rattle.pods.specs.declared.holds.Holds.the-variants.{Fields, Properties}
+use Rattle.pods.specs.declared.holding.Holds.{Holds}
+use Rattle.pods.specs.declared.holding.Holds.the-variants.{Fields, Properties}
 use Rattle.pods.specs.Trees.{Tree, Forest, count, counts}
 use Rattle.pods.specs.Outcomes.{Outcome, gave, refused, refuse, refuse-if, mapped, after}
 use Rattle.pods.specs.Pods.{Reader, Item, item, ahead, itemRead, joined, fitted, items, pod}

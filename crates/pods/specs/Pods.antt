@@ -7,8 +7,8 @@ use lib.ListN.{length, drop}
 use Rattle.refusals.specs.declared.Spot.{Spot}
 use Rattle.refusals.specs.declared.Why.the-variants.{Missing, TooShort, TooDeep, PastContainer}
 use Rattle.words.specs.Words.{little}
-use Rattle.pods.specs.declared.holds.Holds.{Holds}
-use Rattle.pods.specs.declared.holds.Holds.the-variants.{Fields, Properties}
+use Rattle.pods.specs.declared.holding.Holds.{Holds}
+use Rattle.pods.specs.declared.holding.Holds.the-variants.{Fields, Properties}
 use Rattle.pods.specs.Trees.{Tree, Forest, Leaf, leaf, struct, object, none, more}
 use Rattle.pods.specs.Outcomes.{Outcome, gave, refused, refuse, refuse-if, mapped, after}
 use Rattle.pods.specs.Leaves.{leafBody}

@@ -1,6 +1,6 @@
 // The choice types.
 ghost use mathlib.Core.Path.{_≡_};
-ghost use Rattle.pods.specs.Choices.{choiceTypeOf, needed as neededOf};
+ghost use Rattle.pods.specs.Choices.{choiceTypeOf, flagsKept, needed as neededOf, usedOf};
 
 #[derive(Clone, Copy, PartialEq, Eq)]
 pub enum ChoiceType {
@@ -34,6 +34,26 @@ impl ChoiceType {
             ChoiceType::None | ChoiceType::Enum | ChoiceType::Flags => 1,
             ChoiceType::Range => 3,
             ChoiceType::Step => 4,
+        }
+    }
+
+    // How many of `n` values a choice of this type uses.
+    pub fn used(self, n: usize) -> usize
+        ensures { λ r. ⌜ r ≡ usedOf self n ⌝ }
+    {
+        match self {
+            ChoiceType::None | ChoiceType::Range | ChoiceType::Step => self.needed(),
+            ChoiceType::Enum | ChoiceType::Flags => n,
+        }
+    }
+
+    // The flags that a choice of this type keeps of those that it declares.
+    pub fn kept(self, flags: u32) -> u32
+        ensures { λ r. ⌜ r ≡ flagsKept self flags ⌝ }
+    {
+        match self {
+            ChoiceType::None => 0,
+            ChoiceType::Range | ChoiceType::Step | ChoiceType::Enum | ChoiceType::Flags => flags,
         }
     }
 }

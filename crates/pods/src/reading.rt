@@ -9,7 +9,7 @@ ghost use Rattle.pods.specs.Trees.{count, counts};
 ghost use Rattle.pods.specs.Outcomes.{mapped, refused, taken};
 ghost use Rattle.pods.specs.Pods.{ahead, items, pod as podOf};
 ghost use Rattle.pods.specs.Survey.{answered, Remains, surveyOf};
-use crate::holds::Holds;
+use crate::holding::Holds;
 use crate::leaves::leaf;
 use refusals::Refusal;
 use refusals::Spot;

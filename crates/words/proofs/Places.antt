@@ -1,8 +1,8 @@
 -- Words in a part of the bytes. Assumes nothing.
 use mathlib.Core.Path.{_≡_, refl, sym, ap, _∙_}
 use mathlib.Core.List.{List}
-use Prim.Native.Nat.{ℕ, zero, suc, _+_, _≤_, _<_}
-use native.Mathlib.Nat.{add-suc, add-zero}
+use Prim.Native.Nat.{ℕ, zero, suc, _+_, _^_, _≤_, _<_}
+use native.Mathlib.Nat.{add-suc, add-zero, pow-succ'}
 use native.Mathlib.Omega.{arith}
 use lib.ListN.{length, getD, drop, length-drop}
 use Rattle.std.proofs.shelf.Lists.{getD-drop, drop-drop}
@@ -21,6 +21,11 @@ pub little-same : (n k : ℕ) (bytes bytes′ : List ℕ) → ((x : ℕ) → x <
 little-same zero k bytes bytes′ h = refl
 little-same (suc n) k bytes bytes′ h =
     rw (h k (omega arith), little-same n (suc k) bytes bytes′ (λ x l. h x (omega arith)))
+
+-- a word of n bytes is below 256 ^ n
+pub little-below : (n k : ℕ) (bytes : List ℕ) → ((i : ℕ) → getD bytes i 0 < 256) → little n k bytes < 256 ^ n
+little-below zero k bytes h = omega arith
+little-below (suc n) k bytes h = omega (arith, h k, little-below n (suc k) bytes h, pow-succ' 256 n)
 
 -- the first sixteen bytes as four words
 pub record Quarters (bytes : List ℕ) (third fourth : ℕ) (rest : List ℕ) : Type 0 where

@@ -7,7 +7,7 @@ use Rattle.std.proofs.shelf.Results.{err-from-errBy}
 use Rattle.std.proofs.shelf.Tests.{ltb-true, ltb-false}
 use Rattle.pods.specs.Trees.{count}
 use Rattle.pods.specs.Outcomes.{gave, mapped, after}
-use Rattle.pods.specs.declared.holds.Holds.the-variants.{Fields, Properties}
+use Rattle.pods.specs.declared.holding.Holds.the-variants.{Fields, Properties}
 use Rattle.pods.proofs.Turns.{no-key, its-pod, goes-on, refuses-at, exceeds-at, ends, bounded}
 use Rattle.pods.proofs.Starts.{opened, alone, too-deep, no-header, is-struct, no-type, short-object, is-object, is-leaf, bounded-leaf, bounded-items}
 use Rattle.pods.proofs.reading.+container+pod.Needs as need

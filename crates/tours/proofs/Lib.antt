@@ -1,0 +1,10 @@
+pub mod Stacks
+pub mod Beginning
+pub mod Only
+pub mod Retold
+pub mod Filling
+pub mod Telling
+pub mod ByteSteps
+pub mod Touring
+pub mod RowSteps
+pub mod Agree

@@ -1,0 +1,13 @@
+pub mod Told
+pub mod Lead
+pub mod Tours
+pub mod Stack
+pub mod RowsTold
+pub mod Table
+pub mod Seeks
+pub mod Starts
+pub mod Alike
+pub mod Filled
+pub mod ByteTold
+pub mod RowsLeft
+pub mod Rowed
