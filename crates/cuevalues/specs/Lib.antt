@@ -1,0 +1,4 @@
+pub mod Hex
+pub mod Parts
+pub mod Values
+pub mod Pages
