@@ -1,4 +1,6 @@
 // A cue held over lent bytes and a lent table of rows: looked at, set in place, reread and toured.
+#![tactic(auto)]
+
 mod calls;
 mod checking;
 mod choosing;

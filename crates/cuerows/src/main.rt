@@ -1,4 +1,6 @@
 // Reads a cue from standard input, and prints its rows and how many bytes it uses, or why and where it is refused.
+#![tactic(auto)]
+
 use listing::listing;
 use std::io;
 use std::io::Read;

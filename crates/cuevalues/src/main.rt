@@ -6,6 +6,8 @@
 //     ok USED VALUE                  the cue uses so many bytes, and is this value
 //     refused NUMBER PLACE DEPTH     it is refused with that number, at the pod at that place and depth
 //     error REASON                   the line is not hex, or the value is too long to be written
+#![tactic(auto)]
+
 mod hex;
 mod page;
 mod part;

@@ -1,5 +1,7 @@
 // What the survey of a cue answers, by how pods are laid out; and laws of that layout, each on the contract of a function
 // that does nothing else.
+#![tactic(auto)]
+
 ghost use Rattle.std.specs.Prelude.{◌≡◌, ◌≤◌, length, MatchResult};
 ghost use Rattle.pods.specs.Survey.{answered, survey_of};
 ghost use Rattle.format.specs.Laws.{NoneLaid, OneLaid, RestIsFree, SurveyAcceptsLaid};

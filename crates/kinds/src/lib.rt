@@ -1,4 +1,6 @@
 // The ten kinds of pods whose bodies have a fixed size.
+#![tactic(auto)]
+
 mod canonical;
 mod kind;
 mod numbers;

@@ -1,4 +1,6 @@
 // Laws of the rows of a cue and of values laid in it, each on the contract of a function that does nothing else.
+#![tactic(auto)]
+
 ghost use Rattle.laying.specs.Laws.{ElementsApart, LayingKeeps, LooksStand, RowsFit};
 ghost use Rattle.laying.specs.Lines.{LinesLaid};
 

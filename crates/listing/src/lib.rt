@@ -1,4 +1,6 @@
 // The lines that are printed of a cue.
+#![tactic(auto)]
+
 ghost use Rattle.std.specs.Prelude.{◌≡◌, ◌≤◌, ◌++◌, length, IfOk, string_bytes};
 ghost use Rattle.listing.specs.Listing.{end_line, listing_of, refused_line, row_line, row_lines};
 

@@ -1,4 +1,6 @@
 // What the bytes of a cue say, pod by pod, or where and why they are refused.
+#![tactic(auto)]
+
 mod choices;
 mod holding;
 mod leaves;

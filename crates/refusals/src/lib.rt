@@ -1,4 +1,6 @@
 // Why something is refused, and where.
+#![tactic(auto)]
+
 ghost use Rattle.std.specs.Prelude.{◌≡◌};
 ghost use Rattle.refusals.specs.Refusals.{number as number_of, sort_of};
 

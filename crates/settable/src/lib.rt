@@ -1,4 +1,6 @@
 // Settable kinds: kinds with laying added, one value of any of them, and the order of their values.
+#![tactic(auto)]
+
 mod laying;
 mod order;
 mod settable;

@@ -1,4 +1,6 @@
 // What a cue tells, to any visitor, from its bytes and from its rows.
+#![tactic(auto)]
+
 mod byte_tour;
 mod elements;
 mod open;

@@ -11,6 +11,8 @@
 // Empty lines and lines that begin with `#` are passed over.
 // Where the answer differs, or the line is none of these, its number, the line and the answer found are printed.
 // The last line printed says how many lines were tried, and how many differ.
+#![tactic(auto)]
+
 mod hex;
 mod trial;
 

@@ -1,4 +1,6 @@
 // Text by Table 3-7 of the Unicode Standard, well-formed UTF-8 byte sequences.
+#![tactic(auto)]
+
 ghost use Rattle.std.specs.Prelude.{◌≡◌, ◌<◌, ◌≤◌, false, [], ◌∷◌, length, replicate, IfSome, IsUtf8, Decides, MatchOption, bit_and, nat_lt};
 ghost use Rattle.utf8.specs.Reading.{Lacks, Leaves, class_of, due_after, highs};
 ghost use Rattle.utf8.specs.Table37.{find, span as due, table, tail, well_formed, within};

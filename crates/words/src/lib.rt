@@ -1,4 +1,6 @@
 // Words of 32 bits and padding at the front of some bytes.
+#![tactic(auto)]
+
 ghost use Rattle.std.specs.Prelude.{◌≡◌, ◌<◌, ◌≤◌, length, MatchOption};
 ghost use Rattle.words.specs.Words.{Halves, little, padded as padded_of};
 
