@@ -1,6 +1,6 @@
 -- What is laid out in some bytes is laid out wherever those bytes stand. Assumes nothing.
 use Rattle.std.proofs.Common.{◌≡◌, ℕ, suc, ◌+◌, ◌-◌, ◌*◌, ◌/◌, ◌<◌, ◌≤◌, ◌⊎◌, List, length, get_or, sym, refl, ap, ◌∙◌, subst, inl, inr, mul-le-mul_right, suc-mul, arith}
-use Rattle.words.specs.Words.{little, padded}
+use Rattle.words.specs.Words.{little}
 use Rattle.words.proofs.Places.{little_same}
 use Rattle.kinds.specs.declared.kind.Kind.{Kind}
 use Rattle.kinds.specs.Kinds.{size_of, said}
@@ -10,7 +10,7 @@ use Rattle.pods.specs.declared.holding.Holds.{Holds}
 use Rattle.pods.specs.declared.holding.Holds.TheVariants.{Fields, Properties}
 use Rattle.pods.specs.Choices.{needed, used_of, flags_kept}
 use Rattle.pods.specs.Trees.{Tree, Forest, Leaf, fixed, text, raw, array, choice, pointer, leaf, struct, object, none, more, past, total, totals}
-use Rattle.format.specs.Layout.{word_at, Stand, Values, FixedLaid, TextLaid, RawLaid, ArrayLaid, ChoiceLaid, PointerLaid, BodyLaid, Header, declared, Named, Laid, AllLaid}
+use Rattle.format.specs.Layout.{Stand, Values, FixedLaid, TextLaid, RawLaid, ArrayLaid, ChoiceLaid, PointerLaid, BodyLaid, Header, declared, Named, Laid, AllLaid}
 
 -- no more values are used than there are
 pub used_le : (c : ChoiceType) (n : ℕ) → needed c ≤ n → used_of c n ≤ n

@@ -1,5 +1,5 @@
 -- The pods of a container stand one after the other. Assumes nothing.
-use Rattle.std.proofs.Common.{◌≡◌, ℕ, zero, suc, ◌+◌, ◌-◌, ◌*◌, ◌^◌, ◌<◌, ◌≤◌, Bool, true, false, cond, eqb, ◌⊎◌, List, [], ◌∷◌, ◌++◌, length, get_or, sym, refl, ap, ◌∙◌, subst, inl, inr, not-suc-le-zero, arith}
+use Rattle.std.proofs.Common.{◌≡◌, ℕ, zero, suc, ◌+◌, ◌-◌, ◌*◌, ◌^◌, ◌<◌, ◌≤◌, Bool, true, false, cond, eqb, ◌⊎◌, List, [], ◌∷◌, ◌++◌, sym, refl, ap, ◌∙◌, subst, inl, inr, not-suc-le-zero, arith}
 use Rattle.std.proofs.lemmas.List.{append-nil, get_or_append_left, get_or-append_right}
 use Rattle.std.proofs.lemmas.Bool.{eq-eqb, ne_eqb, cases_lt}
 use Rattle.kinds.specs.declared.kind.Kind.{Kind}
@@ -11,7 +11,7 @@ use Rattle.pods.specs.declared.holding.Holds.TheVariants.{Fields, Properties}
 use Rattle.pods.specs.Trees.{Tree, Forest, Leaf, fixed, text, raw, array, choice, pointer, leaf, struct, object, none, more, past, total, totals, count, counts}
 use Rattle.pods.specs.Rows.{Above, leaf_type, locked_of, leaf_row, open_row, rows, rows_of, top}
 use Rattle.pods.specs.Survey.{rows_in}
-use Rattle.pods.proofs.Counted.{rows_count, rows_of_count}
+use Rattle.pods.proofs.Counted.{rows_count}
 use Rattle.format.specs.Places.{blank, row_at, children, Chained, Chain, PodsChained}
 
 children_append : (q : ℕ) (xs ys : List Row) → children q (xs ++ ys) ≡ children q xs ++ children q ys

@@ -1,15 +1,14 @@
 -- What is laid out is read so: bodies that hold no pods. Assumes nothing.
-use Rattle.std.proofs.Common.{◌≡◌, ℕ, zero, suc, ◌+◌, ◌-◌, ◌*◌, ◌/◌, ◌<◌, ◌≤◌, Bool, true, false, cond, eqb, ltb, ◌⊎◌, List, [], length, get_or, take, drop, Some, sym, refl, ap, ◌∙◌, subst, inl, inr, arith, length-drop}
+use Rattle.std.proofs.Common.{◌≡◌, ℕ, ◌+◌, ◌-◌, ◌*◌, ◌/◌, ◌≤◌, cond, eqb, ltb, ◌⊎◌, List, [], length, get_or, take, drop, Some, sym, refl, ap, ◌∙◌, inl, inr, arith}
 use Rattle.std.proofs.lemmas.List.{drop-drop, get_or-drop, nil_from_length}
 use Rattle.std.proofs.lemmas.Bool.{eq-eqb, ne_eqb, le-ltb}
 use Rattle.refusals.specs.declared.Spot.{Spot}
 use Rattle.refusals.specs.declared.Why.TheVariants.{Missing, ChildSize, TooShort}
 use Rattle.words.specs.Words.{little, padded}
 use Rattle.words.proofs.Places.{little_drop, little_front}
-use Rattle.utf8.specs.Table37.{well_formed}
 use Rattle.kinds.specs.declared.kind.Kind.{Kind}
 use Rattle.kinds.specs.declared.kind.Kind.TheVariants.{None, Bool as BoolKind, Id, Int, Long, Float, Double, Rectangle, Fraction, Fd}
-use Rattle.kinds.specs.Kinds.{kind_of, size_of, type_of, word_of}
+use Rattle.kinds.specs.Kinds.{kind_of, size_of, type_of}
 use Rattle.kinds.proofs.Types.{kind_of_type}
 use Rattle.pods.specs.declared.choices.ChoiceType.{ChoiceType}
 use Rattle.pods.specs.declared.choices.ChoiceType.TheVariants.{None as NoChoice, Range, Step, Enum, Flags}

@@ -1,17 +1,17 @@
 -- What is read is what is laid out. Assumes nothing.
-use Rattle.std.proofs.Common.{◌≡◌, ℕ, ◌+◌, ◌<◌, ◌≤◌, ltb, List, ◌++◌, length, get_or, take, Ok, Err, Result, sym, refl, ap, ◌∙◌, subst, arith, length-append, MatchResult}
-use Rattle.std.proofs.lemmas.List.{get_or-take, length-take-le, take-append-le, take_at}
+use Rattle.std.proofs.Common.{◌≡◌, ℕ, ◌≤◌, ltb, List, ◌++◌, length, take, Ok, Err, Result, sym, refl, ap, ◌∙◌, subst, arith, length-append, MatchResult}
+use Rattle.std.proofs.lemmas.List.{get_or-take, length-take-le, take_at}
 use Rattle.std.proofs.lemmas.Bool.{le-ltb, ltb-false}
-use Rattle.pods.specs.Trees.{Tree, deep, total}
-use Rattle.pods.specs.Outcomes.{Outcome, gave, refused, refuse_if, mapped}
+use Rattle.pods.specs.Trees.{Tree}
+use Rattle.pods.specs.Outcomes.{Outcome, gave, refused, mapped}
 use Rattle.pods.specs.Pods.{pod, spot_at}
 use Rattle.pods.specs.Survey.{answered, says, rows_in, survey_of}
 use Rattle.pods.specs.declared.reading.Surveyed.{Surveyed}
 use Rattle.refusals.specs.declared.Refusal.{Refusal}
 use Rattle.pods.proofs.Sizes.{Given, Sized, given_if, pod_sized}
 use Rattle.format.specs.Layout.{Laid}
-use Rattle.format.specs.Laws.{LaidIn, AcceptsLaid, OneLaid, NoneLaid, SurveyAcceptsLaid, RestIsFree}
-use Rattle.format.proofs.Trees.{PodLaid, pod_laid, pod_read_lem, laid_there}
+use Rattle.format.specs.Laws.{LaidIn, OneLaid, NoneLaid, SurveyAcceptsLaid, RestIsFree}
+use Rattle.format.proofs.Trees.{PodLaid, pod_laid, pod_read_lem}
 use Rattle.format.proofs.Ahead.{laid_same}
 
 -- what holds of all that is given holds of what was given

@@ -1,8 +1,7 @@
 -- What is read is laid out so. Assumes nothing.
-use Rattle.std.proofs.Common.{◌≡◌, ℕ, zero, suc, ◌+◌, ◌-◌, ◌*◌, ◌/◌, ◌<◌, ◌≤◌, max, Bool, true, false, cond, eqb, ltb, ◌⊎◌, List, [], length, get_or, take, drop, Some, None, Option, sym, refl, ap, ◌∙◌, subst, inl, inr, arith, length-drop}
+use Rattle.std.proofs.Common.{◌≡◌, ℕ, ◌+◌, ◌-◌, ◌*◌, ◌/◌, ◌<◌, ◌≤◌, Bool, true, false, cond, eqb, ltb, List, [], length, get_or, take, drop, Some, None, Option, sym, refl, ap, ◌∙◌, subst, inl, inr, arith}
 use Rattle.std.proofs.lemmas.List.{drop-drop, get_or-drop, length-take-le}
 use Rattle.std.proofs.lemmas.Bool.{eqb-true, eqb-false, ltb-false}
-use Rattle.refusals.specs.declared.Why.{Why}
 use Rattle.refusals.specs.declared.Spot.{Spot}
 use Rattle.words.specs.Words.{little, padded}
 use Rattle.words.proofs.Places.{little_drop, little_front}
@@ -13,11 +12,11 @@ use Rattle.kinds.proofs.Types.{found, none_found, type_of_kind}
 use Rattle.pods.specs.declared.choices.ChoiceType.{ChoiceType}
 use Rattle.pods.specs.declared.choices.ChoiceType.TheVariants.{None as NoChoice, Range, Step, Enum, Flags}
 use Rattle.pods.specs.Choices.{choice_number, choice_type_of, needed, used_of, flags_kept}
-use Rattle.pods.specs.Trees.{Leaf, array, pointer}
+use Rattle.pods.specs.Trees.{Leaf, array}
 use Rattle.pods.specs.Rows.{leaf_type}
-use Rattle.pods.specs.Outcomes.{Outcome, gave, refused, refuse_if, refuse_unless}
+use Rattle.pods.specs.Outcomes.{Outcome, gave}
 use Rattle.pods.specs.Leaves.{taking, values, fixed_body, text_body, raw_body, array_of, array_body, choice_using, choice_of, choice_count, choice_body, pointer_body, fixed_of, leaf_body}
-use Rattle.pods.proofs.Sizes.{Given, given_if, given_unless, given_either}
+use Rattle.pods.proofs.Sizes.{Given, given_if, given_unless}
 use Rattle.format.specs.Layout.{ArrayCounted, BodyLaid, Values}
 use Rattle.format.proofs.Values.{length_values, word_front, are_values, are_there}
 

@@ -1,7 +1,7 @@
 -- What is read is laid out so, and what is laid out is read so: pods that hold pods. Assumes nothing.
-use Rattle.std.proofs.Common.{◌≡◌, ℕ, zero, suc, ◌+◌, ◌-◌, ◌<◌, ◌≤◌, max, Bool, true, false, cond, eqb, ltb, List, length, drop, sym, refl, ap, ◌∙◌, subst, not-suc-le-zero, arith, length-drop}
+use Rattle.std.proofs.Common.{◌≡◌, ℕ, zero, suc, ◌+◌, ◌-◌, ◌<◌, ◌≤◌, Bool, true, false, cond, eqb, ltb, List, length, drop, sym, refl, ap, ◌∙◌, subst, not-suc-le-zero, arith, length-drop}
 use Rattle.std.proofs.lemmas.List.{drop-drop}
-use Rattle.std.proofs.lemmas.Bool.{eqb-true, eq-eqb, ne_eqb, ltb-false, le-ltb}
+use Rattle.std.proofs.lemmas.Bool.{eqb-true, ltb-false, le-ltb}
 use Rattle.refusals.specs.declared.Spot.{Spot}
 use Rattle.refusals.specs.declared.Why.TheVariants.{Missing, TooShort}
 use Rattle.words.specs.Words.{little}
@@ -18,7 +18,7 @@ use Rattle.pods.specs.Leaves.{leaf_body}
 use Rattle.pods.specs.Pods.{Reader, Item, item, spot_at, item_read, joined, fitted, items, object_body, leaf_tree, body, pod}
 use Rattle.pods.proofs.Sizes.{Given, given_if, ItemSized, ItemsSized, AllSized, item_sized, items_sized, pod_sized, leaf_fits}
 use Rattle.format.specs.Layout.{Header, BodyLaid, Named, Laid, AllLaid}
-use Rattle.format.proofs.Sound.{given_cases, Says, leaf_says}
+use Rattle.format.proofs.Sound.{Says, leaf_says}
 use Rattle.format.proofs.Complete.{leaf_read}
 
 pub given_both : {A : Type 0} (P Q : A → ℕ → Type 0) (o : Outcome A) → Given P o → Given Q o → Given (λ x u. P x u × Q x u) o

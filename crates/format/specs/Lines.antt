@@ -1,9 +1,8 @@
 -- Worked lines: what each says, or why it is refused. Assumes nothing.
-use Rattle.std.specs.Prelude.{◌≡◌, ℕ, zero, suc, ◌+◌, ◌*◌, ◌/◌, ◌%◌, List, [], ◌∷◌, ◌++◌, map}
+use Rattle.std.specs.Prelude.{◌≡◌, ℕ, zero, suc, ◌*◌, ◌/◌, ◌%◌, List, [], ◌∷◌, ◌++◌, map}
 use Rattle.refusals.specs.declared.Why.TheVariants.{Missing, TooShort, PointerLength, PastContainer, TooFewValues, TooDeep}
 use Rattle.kinds.specs.declared.kind.Kind.TheVariants.{None, Int}
 use Rattle.pods.specs.declared.choices.ChoiceType.TheVariants.{Range}
-use Rattle.pods.specs.declared.rows.Row.{Row}
 use Rattle.pods.specs.Trees.{Tree, fixed, text, array, choice, leaf, struct, object, none, more}
 use Rattle.pods.specs.Outcomes.{Outcome, gave, refused, refuse}
 use Rattle.pods.specs.Pods.{spot_at}

@@ -1,9 +1,9 @@
 -- A kind and its type number say each other. Assumes nothing.
-use Rattle.std.proofs.Common.{◌≡◌, ℕ, ◌≤◌, Bool, true, false, cond, eqb, Some, None as no_kind, Option, sym, refl, ap, ◌∙◌, arith, lit≤}
+use Rattle.std.proofs.Common.{◌≡◌, ℕ, Bool, true, false, cond, eqb, Some, None as no_kind, Option, sym, refl, ap, ◌∙◌, arith}
 use Rattle.std.proofs.lemmas.Bool.{eqb-true}
 use Rattle.kinds.specs.declared.kind.Kind.{Kind}
 use Rattle.kinds.specs.declared.kind.Kind.TheVariants.{None, Bool as BoolKind, Id, Int, Long, Float, Double, Rectangle, Fraction, Fd}
-use Rattle.kinds.specs.Kinds.{type_of, size_of, kind_of}
+use Rattle.kinds.specs.Kinds.{type_of, kind_of}
 
 -- one step of a search by number: what it finds has the number that was looked for
 pub found : {A : Type 0} (number : A → ℕ) (t j : ℕ) (first : A) (others : Option A) (a : A) → number first ≡ j → cond (eqb t j) (Some first) others ≡ Some a → (others ≡ Some a → t ≡ number a) → t ≡ number a

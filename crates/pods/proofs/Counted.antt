@@ -1,5 +1,5 @@
 -- There are as many rows as pods. Assumes nothing.
-use Rattle.std.proofs.Common.{◌≡◌, ℕ, suc, ◌+◌, length, refl, ap, ◌∙◌, arith, length-append}
+use Rattle.std.proofs.Common.{◌≡◌, ℕ, ◌+◌, length, refl, ap, arith, length-append}
 use Rattle.pods.specs.declared.holding.Holds.{Holds}
 use Rattle.pods.specs.declared.holding.Holds.TheVariants.{Fields, Properties}
 use Rattle.pods.specs.Trees.{Tree, Forest, leaf, struct, object, none, more, past, total, count, counts}

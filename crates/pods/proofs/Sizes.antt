@@ -1,6 +1,6 @@
 -- How many bytes a pod uses: eight at least for each of its rows, no more than there are, and its total.
 -- Assumes nothing.
-use Rattle.std.proofs.Common.{◌≡◌, ℕ, zero, suc, ◌+◌, ◌-◌, ◌*◌, ◌<◌, ◌≤◌, Bool, true, false, cond, eqb, ltb, List, length, get_or, take, drop, Some, None, Option, refl, ap, arith, length-drop}
+use Rattle.std.proofs.Common.{◌≡◌, ℕ, zero, suc, ◌+◌, ◌-◌, ◌*◌, ◌≤◌, Bool, true, false, cond, eqb, ltb, List, length, get_or, take, drop, Some, None, Option, refl, arith, length-drop}
 use Rattle.std.proofs.lemmas.Bool.{ltb-false}
 use Rattle.refusals.specs.declared.Why.{Why}
 use Rattle.refusals.specs.declared.Spot.{Spot}
@@ -14,8 +14,8 @@ use Rattle.pods.specs.declared.holding.Holds.TheVariants.{Fields, Properties}
 use Rattle.pods.specs.Choices.{choice_type_of, needed}
 use Rattle.pods.specs.Trees.{Tree, Forest, Leaf, struct, object, past, total, totals, count, counts}
 use Rattle.pods.specs.Outcomes.{Outcome, gave, refused, refuse_if, refuse_unless, mapped, after}
-use Rattle.pods.specs.Leaves.{taking, fixed_body, text_body, raw_body, array_of, array_body, choice_using, choice_of, choice_count, choice_body, pointer_body, fixed_of, leaf_body}
-use Rattle.pods.specs.Pods.{Reader, Item, item, item_read, joined, fitted, items, struct_body, object_body, leaf_tree, body, pod}
+use Rattle.pods.specs.Leaves.{taking, text_body, array_of, array_body, choice_using, choice_of, choice_count, choice_body, pointer_body, fixed_of, leaf_body}
+use Rattle.pods.specs.Pods.{Reader, Item, item, item_read, joined, fitted, items, leaf_tree, body, pod}
 
 -- what holds of all that an outcome gives
 abbrev pub Given : {A : Type 0} → (A → ℕ → Type 0) → Outcome A → Type 0

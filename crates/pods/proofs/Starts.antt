@@ -1,5 +1,5 @@
 -- A pod by its header, and bounds of what is counted. Assumes nothing.
-use Rattle.std.proofs.Common.{◌≡◌, ℕ, suc, ◌+◌, ◌-◌, ◌*◌, ◌<◌, ◌≤◌, eqb, List, length, drop, IfOk, Ok, Err, Result, sym, refl, ap, ◌∙◌, add_assoc, arith}
+use Rattle.std.proofs.Common.{◌≡◌, ℕ, suc, ◌+◌, ◌-◌, ◌*◌, ◌<◌, ◌≤◌, List, length, IfOk, Ok, Err, Result, refl, ap, ◌∙◌, add_assoc, arith}
 use Rattle.std.proofs.lemmas.Bool.{lt-ltb, le-ltb, eq-eqb, ne_eqb}
 use Rattle.refusals.specs.declared.Refusal.{Refusal}
 use Rattle.refusals.specs.declared.Spot.{Spot}
@@ -13,7 +13,7 @@ use Rattle.pods.specs.Outcomes.{Outcome, gave, refused, refuse, mapped, after, s
 use Rattle.pods.specs.Leaves.{leaf_body}
 use Rattle.pods.specs.Pods.{Reader, spot_at, items, object_body, leaf_tree, body, pod}
 use Rattle.pods.specs.Survey.{answered}
-use Rattle.pods.proofs.Sizes.{Given, Sized, ItemsSized, AllSized, leaf_fits, items_sized, pod_sized}
+use Rattle.pods.proofs.Sizes.{Given, Sized, ItemsSized, leaf_fits, items_sized, pod_sized}
 
 pub too_deep : (room depth place : ℕ) (bs : List ℕ) → room ≡ 0 → pod room depth place bs ≡ refuse TooDeep (spot_at place depth)
 unfolding pod

@@ -1,6 +1,6 @@
 -- The bodies of pods that hold no pods. `len` is the length that the header declares, `rest` the bytes after the
 -- header, and a refusal is of the pod at `spot`. Assumes nothing.
-use Rattle.std.specs.Prelude.{ℕ, zero, suc, ◌+◌, ◌-◌, ◌*◌, ◌/◌, Bool, cond, List, [], ◌∷◌, length, take, drop, Some, None, Option, ◌==◌, nat_lt, slice_index}
+use Rattle.std.specs.Prelude.{ℕ, zero, suc, ◌+◌, ◌-◌, ◌*◌, ◌/◌, cond, List, [], ◌∷◌, length, take, drop, Some, None, Option, ◌==◌, nat_lt, slice_index}
 use Rattle.refusals.specs.declared.Spot.{Spot}
 use Rattle.refusals.specs.declared.Why.TheVariants.{Missing, UnknownType, ChildSize, NoClosingZero, NotUtf8, TooShort, NoChildSize, PointerLength, ChoiceType as OtherChoice, TooFewValues}
 use Rattle.words.specs.Words.{little, padded}

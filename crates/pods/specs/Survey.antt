@@ -1,5 +1,5 @@
 -- What a cue says, its rows, and what a survey of it answers. Assumes nothing.
-use Rattle.std.specs.Prelude.{◌≡◌, ℕ, List, [], length, drop, Ok, Err, Result, nat_lt}
+use Rattle.std.specs.Prelude.{◌≡◌, ℕ, List, length, drop, Ok, Err, Result, nat_lt}
 use Rattle.refusals.specs.declared.Refusal.{Refusal}
 use Rattle.refusals.specs.declared.Why.TheVariants.{TooLong}
 use Rattle.pods.specs.declared.rows.Row.{Row}

@@ -3,8 +3,8 @@ use Rattle.std.proofs.lemmas.List.{take_rest}
 use Rattle.utf8.proofs.Steps.{missing, inside, outside}
 use Rattle.utf8.proofs.after_byte.Goals as goal
 
-pub returns-in-default : goal.returns-in-default
-returns-in-default c = λ others. missing c.args.text.now c.args.bounds.low c.args.bounds.high others (search rules)
+pub returns-in_default : goal.returns-in_default
+returns-in_default c = λ others. missing c.args.text.now c.args.bounds.low c.args.bounds.high others (search rules)
 
 pub returns-then-not-has : goal.returns-then-not-has
 returns-then-not-has c =

@@ -7,7 +7,7 @@ pub returns : goal.returns
 returns c =
     let text : List ℕ = c.args.text.now in
     let long : 7 < length text = search rules in
-    let p = ascii_word _ _ _ _ _ _ _ _ _ (search rules) (search rules) (search rules) (search rules) (search rules) (search rules) (search rules) (search rules) c.from-le-bytes-word.ensures (omega arith) in
+    let p = ascii_word _ _ _ _ _ _ _ _ _ (search rules) (search rules) (search rules) (search rules) (search rules) (search rules) (search rules) (search rules) c.from_le_bytes-word.ensures (omega arith) in
     rw (take_rest c.args.text.now 8) (
       omega (arith, length-drop 8 c.args.text.now),
       ascii text 0 (omega arith) p.0 ∙ ascii text 1 (omega arith) p.1 ∙ ascii text 2 (omega arith) p.2 ∙ ascii text 3 (omega arith) p.3

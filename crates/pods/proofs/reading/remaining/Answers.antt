@@ -1,10 +1,9 @@
-use Rattle.std.proofs.Common.{◌≡◌, ◌-◌, length, take, drop, sym, subst}
+use Rattle.std.proofs.Common.{◌-◌, length, take, drop, subst}
 use Rattle.std.proofs.lemmas.List.{take_rest}
-use Rattle.pods.specs.Outcomes.{gave}
 use Rattle.pods.specs.Survey.{Remains}
 use Rattle.pods.proofs.reading.remaining.Goals as goal
 
 pub returns : goal.returns
 returns c =
-    subst (λ o. Remains c.args.bytes.now o (take (length c.args.bytes.now - c.in-ok-found.found.used) (drop c.in-ok-found.found.used c.args.bytes.now)))
-    c.in-ok-found.ensures.answer (take_rest c.args.bytes.now c.in-ok-found.found.used)
+    subst (λ o. Remains c.args.bytes.now o (take (length c.args.bytes.now - c.in_ok-found.found.used) (drop c.in_ok-found.found.used c.args.bytes.now)))
+    c.in_ok-found.ensures.answer (take_rest c.args.bytes.now c.in_ok-found.found.used)

@@ -42,6 +42,6 @@ pub returns-in-18 : goal.returns-in-18
 unfolding kind_of
 returns-in-18 c = search rules
 
-pub returns-in-default : goal.returns-in-default
+pub returns-in_default : goal.returns-in_default
 unfolding kind_of
-returns-in-default c = search rules
+returns-in_default c = search rules
