@@ -1,11 +1,11 @@
 -- How a tour ends. Assumes nothing.
-use Rattle.std.proofs.Common.{◌≡◌, ℕ, ◌<◌, List, [], get_or, Ok, Err, ap, ◌∙◌}
+use Rattle.std.proofs.Common.{◌≡◌, ℕ, ◌<◌, List, [], get_or, Ok, Err, ap}
 use Rattle.pods.specs.declared.rows.Row.{Row}
 use Rattle.pods.specs.Trees.{Tree}
 use Rattle.pods.specs.Outcomes.{gave}
 use Rattle.pods.specs.Survey.{says, rows_in}
 use Rattle.tours.specs.declared.stop.Stop.TheVariants.{Visitor}
-use Rattle.tours.specs.Told.{tells, told_by}
+use Rattle.tours.specs.Told.{told_by}
 use Rattle.tours.specs.Lead.{Rule, Led, told_all, stopped, lead, Ends}
 use Rattle.tours.specs.Tours.{ended, tour, Toured}
 use Rattle.tours.specs.RowsTold.{rows_tell}

@@ -1,9 +1,9 @@
 -- The starts of pods that hold no pods. Assumes nothing.
-use Rattle.std.proofs.Common.{◌≡◌, ℕ, zero, suc, ◌+◌, ◌-◌, ◌*◌, ◌/◌, ◌<◌, ◌≤◌, cond, eqb, ◌⊎◌, List, [], ◌∷◌, map, length, get_or, take, drop, Some, None, Ok, Err, sym, refl, ap, ◌∙◌, subst, inl, inr, arith, length-drop}
+use Rattle.std.proofs.Common.{◌≡◌, ℕ, ◌+◌, ◌-◌, ◌<◌, ◌≤◌, ◌⊎◌, List, [], map, length, get_or, take, drop, Some, None, Ok, Err, sym, ap, ◌∙◌, inl, inr, arith, length-drop}
 use Rattle.std.proofs.lemmas.List.{take_rest, take_all, drop_all, drop-drop}
 use Rattle.std.proofs.lemmas.Bool.{eq-eqb, ne_eqb, le-ltb}
 use Rattle.refusals.specs.declared.Why.{Why}
-use Rattle.words.specs.Words.{little, padded, Halves}
+use Rattle.words.specs.Words.{little, Halves}
 use Rattle.words.proofs.Places.{little_drop, little_front}
 use Rattle.kinds.specs.declared.kind.Kind.{Kind}
 use Rattle.kinds.specs.declared.kind.Kind.TheVariants.{Long, Id}
@@ -16,9 +16,8 @@ use Rattle.pods.specs.Choices.{choice_number, choice_type_of, needed, used_of, f
 use Rattle.format.proofs.Complete.{choice_of_number}
 use Rattle.format.specs.Layout.{word_at, ArrayCounted, ChoiceLaid, Values}
 use Rattle.format.proofs.Values.{word_front, only_values}
-use Rattle.tours.specs.declared.elements.Elements.{Elements}
 use Rattle.tours.specs.RowsTold.{part}
-use Rattle.tours.specs.Told.{Thing, pod, element, choice_of}
+use Rattle.tours.specs.Told.{pod, element, choice_of}
 use Rattle.tours.specs.Starts.{elements_left, pointer_kind, values_in}
 
 -- the two words at place b

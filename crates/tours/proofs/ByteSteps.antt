@@ -1,14 +1,12 @@
 -- One step of a tour of bytes. Assumes nothing.
-use Rattle.std.proofs.Common.{◌≡◌, ℕ, zero, suc, ◌+◌, ◌-◌, ◌*◌, ◌<◌, ◌≤◌, Bool, true, false, ltb, List, [], ◌∷◌, ◌++◌, map, length, drop, Some, None, sym, refl, ap, ◌∙◌, subst, add-zero, arith}
+use Rattle.std.proofs.Common.{◌≡◌, ℕ, zero, suc, ◌+◌, ◌-◌, ◌<◌, ◌≤◌, Bool, true, false, ltb, List, [], ◌∷◌, ◌++◌, map, length, drop, Some, None, sym, refl, ap, ◌∙◌, subst, arith}
 use Rattle.std.proofs.lemmas.List.{append_assoc, append-nil}
 use Rattle.std.proofs.lemmas.Bool.{lt-ltb}
 use Rattle.words.specs.Words.{little}
-use Rattle.kinds.specs.declared.kind.Kind.{Kind}
 use Rattle.kinds.specs.Kinds.{type_of, size_of}
 use Rattle.pods.specs.declared.holding.Holds.{Holds}
 use Rattle.pods.specs.declared.holding.Holds.TheVariants.{Fields, Properties}
 use Rattle.pods.specs.Trees.{Tree, Forest, Leaf, leaf, struct, object, none, more, past, total, totals, deep, deepest}
-use Rattle.pods.specs.Outcomes.{Outcome, gave, refused}
 use Rattle.pods.specs.Leaves.{values}
 use Rattle.pods.specs.Pods.{items, pod, spot_at}
 use Rattle.format.specs.Layout.{Named, Laid, AllLaid}
@@ -16,13 +14,12 @@ use Rattle.format.proofs.Trees.{pod_read_lem, items_read, laid_there, total_eigh
 use Rattle.tours.specs.declared.elements.Elements.{Elements}
 use Rattle.tours.specs.declared.open.Frame.{Frame}
 use Rattle.tours.specs.declared.starts.Start.{Start}
-use Rattle.tours.specs.declared.starts.Then.{Then}
 use Rattle.tours.specs.declared.starts.Then.TheVariants.{On, Values, Into}
 use Rattle.tours.specs.declared.told.Told.{Told}
 use Rattle.tours.specs.Told as told
 use Rattle.tours.specs.Told.{Thing, element, property, end, thing, elements_of, named, tells, tells_all}
-use Rattle.tours.specs.Starts.{elements_left, There, Follows, Begins, BeginsTree}
-use Rattle.tours.specs.Stack.{innermost, outward, spent, charged, pushed}
+use Rattle.tours.specs.Starts.{elements_left, There, Follows, BeginsTree}
+use Rattle.tours.specs.Stack.{innermost, outward, charged, pushed}
 use Rattle.tours.specs.ByteTold.{tree_told, forest_told, frames_told, place_told, unkeyed, to_tell, FramesLaid, KeyedRight, Standing, Sound, Due}
 
 abbrev frame : Holds → ℕ → Frame

@@ -1,12 +1,12 @@
 -- A tree by the type number of its header. Assumes nothing.
-use Rattle.std.proofs.Common.{◌≡◌, ℕ, ◌+◌, List, sym, refl, ap, ◌∙◌, arith}
+use Rattle.std.proofs.Common.{◌≡◌, ℕ, ◌+◌, List, sym, refl, arith}
 use Rattle.words.specs.Words.{little}
 use Rattle.format.specs.Layout.{Laid}
 use Rattle.kinds.specs.declared.kind.Kind.{Kind}
 use Rattle.kinds.specs.declared.kind.Kind.TheVariants.{None, Bool as BoolKind, Id, Int, Long, Float, Double, Rectangle, Fraction, Fd}
 use Rattle.kinds.specs.Kinds.{type_of}
 use Rattle.pods.specs.declared.choices.ChoiceType.{ChoiceType}
-use Rattle.pods.specs.Trees.{Tree, Forest, Leaf, fixed, text, raw, array, choice, pointer, leaf, struct, object}
+use Rattle.pods.specs.Trees.{Tree, Forest, fixed, text, raw, array, choice, pointer, leaf, struct, object}
 
 -- a kind's type number is none of the others'
 plain : (k : Kind) → (type_of k ≡ 8 → ⊥) × (type_of k ≡ 9 → ⊥) × (type_of k ≡ 13 → ⊥) × (type_of k ≡ 14 → ⊥) × (type_of k ≡ 15 → ⊥) × (type_of k ≡ 17 → ⊥) × (type_of k ≡ 19 → ⊥)

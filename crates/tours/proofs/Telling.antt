@@ -1,5 +1,5 @@
 -- Telling one thing more. Assumes nothing.
-use Rattle.std.proofs.Common.{◌≡◌, ℕ, zero, suc, ◌+◌, ◌-◌, ◌*◌, ◌<◌, ◌≤◌, List, [], ◌∷◌, map, length, take, drop, Ok, Err, sym, refl, ap, ◌∙◌, subst, suc-mul, arith, length-drop}
+use Rattle.std.proofs.Common.{◌≡◌, ℕ, zero, suc, ◌+◌, ◌-◌, ◌*◌, ◌<◌, ◌≤◌, List, ◌∷◌, map, length, take, drop, Ok, sym, ap, ◌∙◌, suc-mul, arith, length-drop}
 use Rattle.std.proofs.lemmas.List.{take_rest, drop-drop}
 use Rattle.std.proofs.lemmas.Bool.{le-ltb}
 use Rattle.kinds.specs.declared.kind.Kind.{Kind}
@@ -7,7 +7,7 @@ use Rattle.kinds.specs.Kinds.{size_of, type_of, word_of}
 use Rattle.kinds.specs.Bodies.{body_read}
 use Rattle.pods.specs.Leaves.{values}
 use Rattle.tours.specs.declared.elements.Elements.{Elements}
-use Rattle.tours.specs.Told.{Thing, element}
+use Rattle.tours.specs.Told.{element}
 use Rattle.tours.specs.Starts.{elements_left, There}
 
 values_more : (k : Kind) (gap n : ℕ) (bytes : List ℕ) → 0 < n → values k gap n bytes ≡ word_of k bytes ∷ values k gap (n - 1) (drop gap bytes)

@@ -1,5 +1,5 @@
 -- A tour of bytes from its beginning. Assumes nothing.
-use Rattle.std.proofs.Common.{◌≡◌, ℕ, ◌+◌, ◌*◌, ◌≤◌, min, false, List, [], ◌++◌, length, Ok, Result, sym, refl, ap, ◌∙◌, subst, arith}
+use Rattle.std.proofs.Common.{◌≡◌, ℕ, ◌*◌, ◌≤◌, false, List, [], ◌++◌, length, Ok, Result, sym, refl, ap, ◌∙◌, subst, arith}
 use Rattle.kinds.specs.Kinds.{size_of}
 use Rattle.pods.specs.Trees.{Tree, deep}
 use Rattle.pods.specs.Outcomes.{gave, mapped}
@@ -11,11 +11,9 @@ use Rattle.format.proofs.Trees.{PodLaid, pod_laid}
 use Rattle.tours.specs.declared.elements.Elements.{Elements}
 use Rattle.tours.specs.declared.open.Frame.{Frame}
 use Rattle.tours.specs.Told.{tells, told_by}
-use Rattle.tours.specs.Starts.{There}
 use Rattle.tours.specs.ByteTold.{tree_told, to_tell, Sound}
 use Rattle.std.proofs.lemmas.Bool.{le-ltb}
 use Rattle.pods.specs.declared.rows.Row.{Row}
-use Rattle.pods.specs.declared.reading.Surveyed.{Surveyed}
 use Rattle.tours.specs.declared.stop.Stop.{Stop}
 use Rattle.tours.specs.Tours.{Toured, tour, ended}
 use Rattle.tours.specs.Table.{Table, fills}

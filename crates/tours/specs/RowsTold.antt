@@ -1,6 +1,6 @@
 -- What rows tell: elements, text and raw bytes come from the bytes, all else from the rows. Any rows and bytes tell
 -- something. Assumes nothing.
-use Rattle.std.specs.Prelude.{ℕ, zero, suc, ◌+◌, ◌-◌, ◌/◌, ◌%◌, ◌^◌, min, cond, List, [], ◌∷◌, ◌++◌, map, length, take, drop, Some, None, Option, ◌==◌}
+use Rattle.std.specs.Prelude.{ℕ, ◌+◌, ◌-◌, ◌/◌, ◌%◌, ◌^◌, min, cond, List, [], ◌∷◌, ◌++◌, map, length, take, drop, Some, None, Option, ◌==◌}
 use Rattle.kinds.specs.declared.kind.Kind.{Kind}
 use Rattle.kinds.specs.Kinds.{kind_of, size_of, type_of}
 use Rattle.pods.specs.declared.holding.Holds.{Holds}
@@ -9,7 +9,7 @@ use Rattle.pods.specs.declared.rows.Row.{Row}
 use Rattle.pods.specs.Trees.{past}
 use Rattle.pods.specs.Leaves.{values}
 use Rattle.tours.specs.declared.open.Frame.{Frame}
-use Rattle.tours.specs.Told.{Content, value, text_of, raw_of, array_of, choice_of, pointer_to, struct_open, object_open, Thing, pod, element, property, end, named}
+use Rattle.tours.specs.Told.{Content, value, text_of, raw_of, array_of, choice_of, pointer_to, struct_open, object_open, Thing, pod, element, end, named}
 use Rattle.tours.specs.Stack.{charged, pushed}
 
 -- n bytes from a place on, as far as they are there

@@ -1,5 +1,5 @@
 -- Looking for the pod of a property. Assumes nothing.
-use Rattle.std.specs.Prelude.{ℕ, ◌+◌, ◌-◌, min, Bool, cond, ◌&&◌, ◌==◌}
+use Rattle.std.specs.Prelude.{ℕ, ◌+◌, ◌-◌, min, cond, ◌&&◌, ◌==◌}
 use Rattle.tours.specs.declared.seek.Search.{Search}
 use Rattle.tours.specs.declared.seek.Search.TheVariants.{Looking, Due, Found}
 use Rattle.tours.specs.declared.seek.Seek.{Seek}

@@ -1,5 +1,5 @@
 -- The open containers, the innermost first: what each holds, and how many of its bytes are left. Assumes nothing.
-use Rattle.std.specs.Prelude.{◌≡◌, ℕ, zero, suc, ◌-◌, Bool, true, false, cond, List, [], ◌∷◌, length, Some, None, Option, nat_lt, slice_index_or}
+use Rattle.std.specs.Prelude.{ℕ, zero, suc, ◌-◌, cond, List, [], ◌∷◌, length, Some, None, Option, nat_lt, slice_index_or}
 use Rattle.pods.specs.declared.holding.Holds.TheVariants.{Fields}
 use Rattle.tours.specs.declared.open.Frame.{Frame}
 use Rattle.tours.specs.declared.open.Open.{Open}

@@ -1,8 +1,8 @@
 -- What a table of rows makes of told things. Assumes nothing.
 use Rattle.std.specs.Prelude.{ℕ, ◌+◌, ◌-◌, ◌*◌, ◌%◌, ◌^◌, min, max, cond, List, length, ◌==◌, nat_lt, slice_index_or, slice_set}
 use Rattle.pods.specs.declared.rows.Row.{Row}
-use Rattle.tours.specs.Told.{Content, value, text_of, raw_of, array_of, choice_of, pointer_to, struct_open, object_open, Thing, pod, element, property, end}
-use Rattle.tours.specs.Lead.{Answer, holds, refuses, Rule}
+use Rattle.tours.specs.Told.{Content, value, text_of, raw_of, array_of, choice_of, pointer_to, struct_open, object_open, pod, element, property, end}
+use Rattle.tours.specs.Lead.{holds, refuses, Rule}
 
 -- a table, how many of its rows stand, the row of the innermost open container and one more (0 where none is open), and the
 -- latest property

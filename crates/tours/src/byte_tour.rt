@@ -134,8 +134,8 @@ impl<'a> ByteTeller<'a> {
 
 // Tells all that the bytes of a cue tell; answers how many things were told. Bytes that the survey refuses tell nothing.
 pub fn tour_bytes<V: Visitor>(bytes: &[u8], visitor: &mut V) -> Result<usize, Stop>
-    ensures keeps { lent visitor.new ≡ lent visitor.old }
-    ensures leads { Toured (tour rule (held visitor.old) (told_by bytes.now)) result (held visitor.new) }
+    ensures keeps { V.lent visitor.new ≡ V.lent visitor.old }
+    ensures leads { Toured (tour V.rule (V.held visitor.old) (told_by bytes.now)) result (V.held visitor.new) }
 {
     if let Err(refusal) = survey(bytes) {
         return Err(Stop::Bytes(refusal));

@@ -232,9 +232,9 @@ pub fn tour_rows<'a, V: Visitor>(
     rows: &'a [Row],
     visitor: &mut V,
 ) -> Result<usize, Stop>
-    ensures keeps { lent visitor.new ≡ lent visitor.old }
-    ensures leads { Toured (ended (lead rule (held visitor.old) (rows_tell bytes.now [] rows.now))) result (held visitor.new) }
-    ensures alike { (t : Tree) (used : ℕ) → says bytes.now ≡ gave t used → rows.now ≡ rows_in t → Toured (tour rule (held visitor.old) (told_by bytes.now)) result (held visitor.new) }
+    ensures keeps { V.lent visitor.new ≡ V.lent visitor.old }
+    ensures leads { Toured (ended (lead V.rule (V.held visitor.old) (rows_tell bytes.now [] rows.now))) result (V.held visitor.new) }
+    ensures alike { (t : Tree) (used : ℕ) → says bytes.now ≡ gave t used → rows.now ≡ rows_in t → Toured (tour V.rule (V.held visitor.old) (told_by bytes.now)) result (V.held visitor.new) }
 {
     let mut teller = RowTeller {
         bytes,

@@ -20,9 +20,9 @@ pub trait Teller<'a> {
 
 // Tells all, up to the visitor's first refusal; answers how many things were told, counted up to the largest number of 64 bits.
 pub fn tell_all<'a, T: Teller<'a>, V: Visitor>(from: &mut T, to: &mut V) -> Result<usize, u32>
-    requires { sound from.old }
-    ensures keeps { lent to.new ≡ lent to.old }
-    ensures leads { Ends (lead rule (held to.old) (tells from.old)) result (held to.new) }
+    requires { T.sound from.old }
+    ensures keeps { V.lent to.new ≡ V.lent to.old }
+    ensures leads { Ends (lead V.rule (V.held to.old) (T.tells from.old)) result (V.held to.new) }
 {
     let mut count: usize = 0;
     while let Some(told) = from.next() {

@@ -1,25 +1,23 @@
-use Rattle.std.proofs.Common.{◌≡◌, Ok, Err, sym, refl, ap, ◌∙◌, subst}
-use Rattle.pods.specs.Outcomes.{gave}
+use Rattle.std.proofs.Common.{Ok, sym, refl, subst}
 use Rattle.tours.specs.Lead.{lead, Ends}
 use Rattle.tours.specs.Tours.{Toured, tour}
 use Rattle.tours.specs.Told.{tells}
-use Rattle.tours.specs.declared.stop.Stop.TheVariants.{Visitor}
-use Rattle.tours.proofs.Agree.{ended_ok, ended_err}
+use Rattle.tours.proofs.Agree.{ended_ok}
 use Rattle.tours.proofs.Touring.{accepted, fresh_sound, fresh_told, told_by_lem}
 use Rattle.tours.proofs.byte_tour.tour_bytes.Goals as goal
 
-pub tell-all-requires : goal.tell-all-requires
-tell-all-requires g c =
-    let a = accepted c.args.bytes.now _ _ c.in-default.ensures.answer in
-    ((refl, tt), fresh_sound c.args.bytes.now _ a _ c.none.result c.new.ensures c.none.ensures.0 c.none.ensures.1)
+pub tell_all-requires : goal.tell_all-requires
+tell_all-requires g c =
+    let a = accepted c.args.bytes.now _ _ c.in_default.ensures.answer in
+    λ _. ((refl, tt), fresh_sound c.args.bytes.now _ a _ c.none.result c.new.ensures c.none.ensures.0 c.none.ensures.1)
 
 pub returns-in-Ok : goal.returns-in-Ok
 returns-in-Ok g c =
     let rule = g.V.Visitor.rule in
     let h = g.V.Visitor.held c.args.visitor.now in
-    let now = g.V.Visitor.held c.tell-all.new.to in
-    let a = accepted c.args.bytes.now _ _ c.in-default.ensures.answer in
+    let now = g.V.Visitor.held c.tell_all.new.to in
+    let a = accepted c.args.bytes.now _ _ c.in_default.ensures.answer in
     let told = fresh_told c.args.bytes.now _ a _ c.none.result c.new.ensures c.none.ensures.0 c.none.ensures.1 in
     let e = subst (λ ts. Ends (lead rule h ts) (Ok c.in-Ok.count) now) told c.in-Ok.ensures.leads in
     let t = ended_ok (lead rule h (tells a.tree 0)) c.in-Ok.count now e in
-    record { keeps = c.tell-all.ensures.keeps; leads = subst (λ o. Toured (tour rule h o) (Ok c.in-Ok.count) now) (sym (told_by_lem c.args.bytes.now _ a)) t }
+    record { keeps = c.tell_all.ensures.keeps; leads = subst (λ o. Toured (tour rule h o) (Ok c.in-Ok.count) now) (sym (told_by_lem c.args.bytes.now _ a)) t }
