@@ -23,8 +23,8 @@ returns c =
     let few : length (text_of page) ≤ 262144 = omega (arith, page.few, page.text.ok.0) in
     record {
       does =
-          kept (text_of self.page) self.joined self.left (thing c.args.told) (text_of page) c.joins-self.result c.leaves-self.result c.in-default.ensures.says few
-          (c.joins-self.ensures ∙ ap (λ j. joins j (thing c.args.told)) c.in-default.ensures.same.0)
-          (c.leaves-self.ensures ∙ ap (λ n. leaves n (thing c.args.told)) c.in-default.ensures.same.1);
+          kept (text_of self.page) self.joined self.left (thing c.args.told) (text_of page) c.joins-self.result c.leaves-self.result c.in_default.ensures.says few
+          (c.joins-self.ensures ∙ ap (λ j. joins j (thing c.args.told)) c.in_default.ensures.same.0)
+          (c.leaves-self.ensures ∙ ap (λ n. leaves n (thing c.args.told)) c.in_default.ensures.same.1);
       keeps = refl;
     }

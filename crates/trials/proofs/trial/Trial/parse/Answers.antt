@@ -10,11 +10,11 @@ joined line name rest digits expected task whole named halves = whole ∙ ap (λ
 -- the line is cut at its first space, and what follows at its first equals sign between spaces
 pub returns : goal.returns
 returns c =
-    let name = c.in-ok-name.name in
-    let rest = c.in-ok-name.rest in
-    let digits = c.in-ok-digits.digits in
-    let expected = c.in-ok-digits.expected in
-    joined c.args.line.now name.now rest.now digits.now expected.now c.in-ok-task.task
-    (split_parts 32 c.args.line.now (Some (name, rest)) c.in-ok-name.ensures.cases (lit< tt)).0
-    c.in-ok-task.ensures
-    (split_text_parts (codes " = ") rest.now (Some (digits, expected)) c.in-ok-digits.ensures.cases)
+    let name = c.in_ok-name.name in
+    let rest = c.in_ok-name.rest in
+    let digits = c.in_ok-digits.digits in
+    let expected = c.in_ok-digits.expected in
+    joined c.args.line.now name.now rest.now digits.now expected.now c.in_ok-task.task
+    (split_parts 32 c.args.line.now (Some (name, rest)) c.in_ok-name.ensures.cases (lit< tt)).0
+    c.in_ok-task.ensures
+    (split_text_parts (codes " = ") rest.now (Some (digits, expected)) c.in_ok-digits.ensures.cases)
