@@ -1,5 +1,5 @@
 -- A table filled with the rows of bytes, and held. Assumes nothing.
-use Rattle.std.proofs.Common.{◌≡◌, ℕ, ◌<◌, ◌≤◌, Bool, true, false, cond, ◌&&◌, ltb, leb, List, ◌++◌, length, take, drop, Ok, Err, Result, sym, refl, ap, ◌∙◌, subst, arith, length-append, length-take-le, ltb-false, ltb-true, le-ltb, le-leb}
+use Rattle.std.proofs.Common.{◌≡◌, ℕ, ◌≤◌, Bool, true, false, cond, ◌&&◌, ltb, leb, List, ◌++◌, length, take, drop, Ok, Err, Result, sym, refl, ap, ◌∙◌, subst, arith, length-append, length-take-le, ltb-false, ltb-true, le-ltb, le-leb}
 use borrow.Author.Tests.{lt-leb}
 use lib.Seq.{take-append_seam}
 use Rattle.refusals.specs.declared.Refusal.{Refusal}

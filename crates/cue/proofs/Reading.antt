@@ -1,16 +1,15 @@
 -- Elements of a row: how many bytes they have, and their words. Assumes nothing.
-use Rattle.std.proofs.Common.{◌≡◌, ℕ, zero, suc, pred, ◌+◌, ◌-◌, ◌*◌, ◌^◌, ◌<◌, ◌≤◌, Bool, true, false, cond, ◌||◌, eqb, ltb, ◌≢◌, ◌⊎◌, List, [], ◌++◌, length, take, drop, Some, None as no_kind, Ok, Err, Option, sym, refl, ap, ◌∙◌, inl, inr, append-nil, mul-le-mul_right, mul-le-mul_left, zero-add, arith, length-drop, le-ltb, eq-eqb, ne_eqb}
+use Rattle.std.proofs.Common.{◌≡◌, ℕ, zero, suc, pred, ◌+◌, ◌-◌, ◌*◌, ◌^◌, ◌<◌, ◌≤◌, Bool, true, false, cond, ◌||◌, eqb, ◌≢◌, ◌⊎◌, List, [], ◌++◌, length, take, drop, Some, None as no_kind, Ok, Option, sym, refl, ap, ◌∙◌, inl, inr, append-nil, mul-le-mul_right, mul-le-mul_left, zero-add, arith, length-drop, le-ltb, eq-eqb, ne_eqb}
 use lib.Seq.{drop-length}
 use Rattle.std.proofs.lemmas.List.{take_rest, drop-drop}
 use borrow.Rule.Slice.PartMut.{put_mid}
 use Rattle.words.specs.Words.{bytes_of, lay}
-use Rattle.words.proofs.Laying.{length_bytes}
 use Rattle.kinds.specs.declared.kind.Kind.{Kind}
 use Rattle.kinds.specs.Bodies.{body_read}
 use Rattle.kinds.specs.Kinds.{kind_of, size_of, word_of}
 use Rattle.settable.proofs.Bytes.{at_most_eight}
 use Rattle.pods.specs.declared.rows.Row.{Row}
-use Rattle.laying.specs.Elements.{has_bytes, has_values, bytes_by, element_size, word_by}
+use Rattle.laying.specs.Elements.{has_bytes, has_values, bytes_by, element_size}
 use Rattle.pods.specs.declared.choices.ChoiceType.{ChoiceType}
 use Rattle.pods.specs.Choices.{choice_type_of}
 use Rattle.histories.specs.Choosing.{among, allows, allows_by, row_allows}

@@ -18,9 +18,8 @@ use Rattle.histories.specs.Cues.{accepts, rows_of, word_of}
 use Rattle.histories.specs.Parties.{known}
 use Rattle.histories.specs.Plain.{look_by, set_by, unless, value_checked}
 use Rattle.histories.proofs.Alike.{value_same, row_allows_same}
-use Rattle.histories.proofs.Asking.{Accepted, set_accepted}
+use Rattle.histories.proofs.Asking.{set_accepted}
 use Rattle.histories.proofs.Enough.{Enough, enough}
-use Rattle.histories.proofs.Forms.{length_with}
 use Rattle.histories.proofs.Framing.{Framed, framed, framed_within}
 use Rattle.histories.proofs.Saying.{accepted_says, rows_said_lem, word_said_lem}
 use Rattle.cue.specs.Permits.{Permitted}

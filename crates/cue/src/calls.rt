@@ -159,8 +159,8 @@ impl<'a> Cue<'a> {
 
     // Tells all that the bytes tell, up to the visitor's first refusal; answers how many things were told.
     pub fn tour_bytes<V: Visitor>(&self, visitor: &mut V) -> Result<usize, Why>
-        ensures toured { TouredBytes (held_of self.now) rule (held visitor.old) (result, held visitor.new) }
-        ensures keeps { lent visitor.new ≡ lent visitor.old }
+        ensures toured { TouredBytes (held_of self.now) V.rule (V.held visitor.old) (result, V.held visitor.new) }
+        ensures keeps { V.lent visitor.new ≡ V.lent visitor.old }
     {
         if !self.opened {
             return Err(Why::Shut);
@@ -170,8 +170,8 @@ impl<'a> Cue<'a> {
 
     // The same from the rows that stand.
     pub fn tour_rows<V: Visitor>(&self, visitor: &mut V) -> Result<usize, Why>
-        ensures toured { TouredRows (held_of self.now) rule (held visitor.old) (result, held visitor.new) }
-        ensures keeps { lent visitor.new ≡ lent visitor.old }
+        ensures toured { TouredRows (held_of self.now) V.rule (V.held visitor.old) (result, V.held visitor.new) }
+        ensures keeps { V.lent visitor.new ≡ V.lent visitor.old }
     {
         if !self.opened {
             return Err(Why::Shut);

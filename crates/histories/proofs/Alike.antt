@@ -1,5 +1,5 @@
 -- Two plain cues that differ in nothing but the values of rows that are not read-only. Assumes nothing.
-use Rattle.std.proofs.Common.{◌≡◌, ℕ, zero, suc, pred, ◌+◌, ◌<◌, ◌≤◌, Bool, true, false, cond, not, ◌&&◌, ◌||◌, eqb, ltb, ◌≢◌, ◌⊎◌, List, [], ◌∷◌, length, Some, None as nothing, Ok, Err, Option, Result, sym, refl, ap, ◌∙◌, subst, inl, inr, ⊎_elim, arith, ltb-true, eqb-true}
+use Rattle.std.proofs.Common.{◌≡◌, ℕ, zero, suc, pred, ◌<◌, ◌≤◌, Bool, true, false, cond, ◌&&◌, ◌||◌, eqb, ltb, ◌≢◌, ◌⊎◌, List, length, Some, None as nothing, Ok, Option, Result, sym, refl, ap, ◌∙◌, inl, inr, arith, ltb-true, eqb-true}
 use Rattle.refusals.specs.declared.Why.{Why}
 use Rattle.refusals.specs.declared.Why.TheVariants.{NoParty, NoRow, OtherKind, NoElement, Locked, Forbidden}
 use Rattle.kinds.specs.declared.kind.Kind.{Kind}
@@ -11,11 +11,11 @@ use Rattle.pods.specs.declared.choices.ChoiceType.TheVariants.{None, Range, Step
 use Rattle.pods.specs.declared.rows.Row.{Row}
 use Rattle.pods.specs.Choices.{choice_type_of, needed}
 use Rattle.format.specs.Places.{row_at}
-use Rattle.laying.specs.Elements.{settable_kind, lay_word, with_word}
-use Rattle.histories.specs.Cues.{accepts, rows_of, word_of}
-use Rattle.histories.specs.Parties.{stage_management, known, read_only, may_set}
+use Rattle.laying.specs.Elements.{settable_kind}
+use Rattle.histories.specs.Cues.{rows_of, word_of}
+use Rattle.histories.specs.Parties.{known, read_only, may_set}
 use Rattle.histories.specs.Choosing.{among, allows, allows_by, row_allows}
-use Rattle.histories.specs.Plain.{unless, can_set, same_kind, number_checked, value_checked, set_by, word_laid, value_laid}
+use Rattle.histories.specs.Plain.{unless, can_set, same_kind, number_checked, value_checked, set_by}
 use Rattle.histories.proofs.Enough.{Enough}
 use Rattle.histories.proofs.Forms.{unworded, same_or, length_with, form_with}
 use Rattle.histories.proofs.Framing.{Framed}

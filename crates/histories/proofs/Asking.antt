@@ -1,7 +1,7 @@
 -- What an accepted set passed. Assumes nothing.
-use Rattle.std.proofs.Common.{◌≡◌, ℕ, ◌<◌, Bool, true, false, cond, not, ◌&&◌, ◌||◌, eqb, ltb, List, length, Some, None as nothing, Ok, Err, Option, Result, sym, refl, ap, ◌∙◌, subst, arith, ltb-true, eq-eqb, eqb-true}
+use Rattle.std.proofs.Common.{◌≡◌, ℕ, ◌<◌, Bool, true, false, not, ◌&&◌, ◌||◌, eqb, ltb, List, length, Some, None as nothing, Ok, Option, Result, sym, refl, ap, ◌∙◌, subst, arith, ltb-true, eq-eqb, eqb-true}
 use Rattle.refusals.specs.declared.Why.{Why}
-use Rattle.refusals.specs.declared.Why.TheVariants.{NoParty, NotANumber, NoRow, NotSettable, OtherKind, NoElement, Locked, Forbidden}
+use Rattle.refusals.specs.declared.Why.TheVariants.{NoParty, NoRow, OtherKind, NoElement, Locked, Forbidden}
 use Rattle.kinds.specs.declared.kind.Kind.{Kind}
 use Rattle.kinds.specs.Kinds.{kind_of, type_of}
 use Rattle.kinds.proofs.Types.{kind_of_type}

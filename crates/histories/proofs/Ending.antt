@@ -1,8 +1,8 @@
 -- A visitor that is led over told things takes them all, or all before the first that it refuses. Assumes nothing.
-use Rattle.std.proofs.Common.{◌≡◌, ℕ, zero, suc, ◌+◌, ◌-◌, ◌^◌, ◌≤◌, min, ◌⊎◌, List, [], ◌∷◌, ◌++◌, length, Ok, Err, Result, sym, refl, ap, ◌∙◌, subst, inl, inr, arith}
+use Rattle.std.proofs.Common.{◌≡◌, ℕ, ◌+◌, ◌-◌, ◌^◌, ◌≤◌, ◌⊎◌, List, [], ◌∷◌, length, Ok, Result, sym, refl, ap, ◌∙◌, subst, inl, inr, arith}
 use Rattle.refusals.specs.declared.Why.{Why}
 use Rattle.tours.specs.Told.{Thing}
-use Rattle.tours.specs.Lead.{Answer, holds, refuses, Rule, Led, onward, counted, lead_from, lead}
+use Rattle.tours.specs.Lead.{Answer, holds, refuses, Rule, onward, counted, lead_from, lead}
 use Rattle.histories.specs.Plain.{toured}
 use Rattle.histories.specs.Histories.{Takes, Stops, Ends}
 

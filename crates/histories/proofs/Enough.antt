@@ -10,7 +10,6 @@ use Rattle.pods.specs.Trees.{Tree, fixed, text, raw, array, choice, pointer, lea
 use Rattle.format.specs.Layout.{Laid}
 use Rattle.format.specs.Places.{row_at}
 use Rattle.format.proofs.Chains.{root}
-use Rattle.format.proofs.Sound.{number_of_choice}
 use Rattle.laying.proofs.Accepted.{accepted, pod_of_lem}
 use Rattle.laying.proofs.Elements.{plain as plain_type}
 use Rattle.histories.specs.Cues.{accepts, rows_of}

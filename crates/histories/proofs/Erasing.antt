@@ -5,7 +5,7 @@ use Rattle.settable.specs.declared.value.Value.{Value}
 use Rattle.format.specs.Places.{row_at}
 use Rattle.laying.specs.Laws.{Bytes}
 use Rattle.histories.specs.Cues.{accepts, rows_of, word_of}
-use Rattle.histories.specs.Parties.{rigging, stage_management, read_only, may_set}
+use Rattle.histories.specs.Parties.{rigging, stage_management, read_only}
 use Rattle.histories.specs.Plain.{Call, looks, sets, rereads, tours_bytes, tours_rows, answer, after, if_accepted, set_by, value_laid, plain, run}
 use Rattle.histories.specs.Held.{IsValue}
 use Rattle.histories.specs.Histories.{stage_set, kept_unless, without_stage, answer_if, to_rigging, answers_to_rigging}

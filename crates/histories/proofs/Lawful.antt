@@ -1,20 +1,18 @@
 -- The laws of every history. Assumes nothing.
-use Rattle.std.proofs.Common.{◌≡◌, ℕ, ◌-◌, ◌^◌, ◌<◌, ◌≤◌, Bool, true, false, ltb, List, [], ◌∷◌, length, get_or, Ok, Err, Result, sym, refl, ap, ◌∙◌, subst, inr, arith, ltb-true}
-use Rattle.refusals.specs.declared.Why.{Why}
+use Rattle.std.proofs.Common.{◌≡◌, ℕ, ◌<◌, Bool, true, false, ltb, List, [], ◌∷◌, length, get_or, Ok, Err, sym, refl, ap, ◌∙◌, subst, inr, arith, ltb-true}
 use Rattle.refusals.specs.declared.Why.TheVariants.{Shut, NoRow, NoElement}
 use Rattle.pods.specs.declared.rows.Row.{Row}
 use Rattle.format.specs.Places.{row_at}
-use Rattle.tours.specs.Lead.{Rule}
 use Rattle.laying.specs.Laws.{Bytes}
 use Rattle.histories.specs.Cues.{accepts, rows_of, word_of, told_of}
 use Rattle.histories.specs.Parties.{read_only}
-use Rattle.histories.specs.Plain.{Call, tours_bytes, tours_rows, answer, after, Exchange, calls_of, plain, run, look_by, unless}
-use Rattle.histories.specs.Held.{Held, holding, standing}
-use Rattle.histories.specs.Histories.{Runs, Reached, Answered, Ends, ToursAgree, without_stage, answers_to_rigging, KeptApart, Laws, Lawful, Life}
+use Rattle.histories.specs.Plain.{tours_bytes, tours_rows, answer, Exchange, calls_of, plain, run, look_by, unless}
+use Rattle.histories.specs.Held.{Held, holding}
+use Rattle.histories.specs.Histories.{Runs, Reached, Answered, Ends, ToursAgree, without_stage, answers_to_rigging, KeptApart, Lawful, Life}
 use Rattle.histories.proofs.Alike.{Alike, alike_refl, alike_sym, alike_trans}
 use Rattle.histories.proofs.Telling.{few_told}
 use Rattle.histories.proofs.Ending.{lead_ends}
-use Rattle.histories.proofs.Erasing.{Good, AllValued, after_good, erased}
+use Rattle.histories.proofs.Erasing.{Good, AllValued, erased}
 use Rattle.histories.proofs.Lasting.{SameForm, LeftAt, after_form, one_in_front}
 use Rattle.histories.proofs.Stepping.{InStep, newly_held, start, past, stepped}
 

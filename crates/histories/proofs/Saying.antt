@@ -1,5 +1,5 @@
 -- What accepted bytes say. Assumes nothing.
-use Rattle.std.proofs.Common.{◌≡◌, ℕ, Bool, true, false, List, sym, refl, ap, ◌∙◌, arith}
+use Rattle.std.proofs.Common.{◌≡◌, ℕ, true, List, refl, ap, arith}
 use Rattle.pods.specs.Outcomes.{Outcome, gave, refused}
 use Rattle.pods.specs.Survey.{says, rows_in}
 use Rattle.pods.specs.Trees.{Tree}

@@ -1,15 +1,12 @@
 -- One call on an open cue: its answer is the plain cue's, and the cue stays in step with the plain one. Assumes nothing.
-use Rattle.std.proofs.Common.{◌≡◌, ℕ, ◌+◌, ◌<◌, ◌≤◌, Bool, true, false, cond, ◌&&◌, leb, List, [], ◌∷◌, ◌++◌, length, get_or, take, drop, set, Some, None as nothing, Ok, Err, Option, Result, sym, refl, ap, ◌∙◌, subst, arith, length-append, length-set, take-append-drop, length-take-le, get_or-take, leb-true}
+use Rattle.std.proofs.Common.{◌≡◌, ℕ, ◌<◌, ◌≤◌, Bool, true, false, cond, ◌&&◌, leb, List, [], ◌++◌, length, take, drop, set, Ok, Err, Result, sym, refl, ap, ◌∙◌, subst, arith, length-append, take-append-drop, length-take-le, get_or-take}
 use lib.Seq.{take-append_seam, take-set-lt}
 use Rattle.refusals.specs.declared.Why.{Why}
 use Rattle.refusals.specs.declared.Why.TheVariants.{Shut}
 use Rattle.settable.specs.declared.value.Value.{Value}
-use Rattle.settable.specs.Values.{value_kind, value_word}
 use Rattle.pods.specs.declared.rows.Row.{Row}
-use Rattle.pods.specs.Outcomes.{gave}
-use Rattle.pods.specs.Survey.{says, rows_in}
 use Rattle.format.specs.Places.{row_at, blank}
-use Rattle.tours.specs.Lead.{Rule, lead}
+use Rattle.tours.specs.Lead.{lead}
 use Rattle.tours.specs.RowsTold.{rows_tell}
 use Rattle.tours.proofs.Retold.{rows_tell_alike}
 use Rattle.laying.specs.Elements.{reworded, with_word}
@@ -18,7 +15,7 @@ use Rattle.histories.specs.Cues.{accepts, rows_of, word_of, told_of}
 use Rattle.histories.specs.Plain.{Call, looks, sets, rereads, tours_bytes, tours_rows, Answer, answer, after, if_accepted, look_by, set_by, value_laid, toured}
 use Rattle.histories.specs.Held.{Held, holding, filled, standing, if_open, Left, IsValue, rows_relaid, relaid, refilled}
 use Rattle.histories.specs.Histories.{Step}
-use Rattle.histories.proofs.Saying.{Says, accepted_says, rows_said_lem, told_said}
+use Rattle.histories.proofs.Saying.{accepted_says, rows_said_lem, told_said}
 use Rattle.histories.proofs.Forms.{length_with}
 use Rattle.histories.proofs.Framing.{Framed, set_laid}
 

@@ -1,7 +1,6 @@
 -- A cue tells no more things than it has bytes. Assumes nothing.
-use Rattle.std.proofs.Common.{◌≡◌, ℕ, zero, suc, ◌+◌, ◌-◌, ◌*◌, ◌^◌, ◌<◌, ◌≤◌, ◌⊎◌, List, [], ◌∷◌, ◌++◌, map, length, sym, refl, ap, ◌∙◌, subst, inl, inr, mul-le-mul_left, mul-one, arith, length-append}
+use Rattle.std.proofs.Common.{◌≡◌, ℕ, ◌+◌, ◌-◌, ◌*◌, ◌^◌, ◌≤◌, List, [], ◌∷◌, ◌++◌, length, refl, inl, inr, mul-le-mul_left, mul-one, arith, length-append}
 use Rattle.std.proofs.lemmas.List.{length-map}
-use Rattle.words.specs.Words.{padded}
 use Rattle.kinds.specs.Kinds.{size_of, type_of}
 use Rattle.pods.specs.declared.choices.ChoiceType.{ChoiceType}
 use Rattle.pods.specs.declared.choices.ChoiceType.TheVariants.{None, Range, Step, Enum, Flags}
@@ -12,7 +11,7 @@ use Rattle.pods.specs.Outcomes.{Outcome, gave, refused}
 use Rattle.pods.specs.Survey.{says}
 use Rattle.pods.specs.Trees.{Tree, Forest, Leaf, fixed, text, raw, array, choice, pointer, leaf, struct, object, none, more, past, total, totals}
 use Rattle.format.specs.Layout.{Laid, AllLaid, ArrayCounted, BodyLaid}
-use Rattle.tours.specs.Told.{Thing, element, end, elements_of, named, tells, tells_all}
+use Rattle.tours.specs.Told.{element, end, elements_of, named, tells, tells_all}
 use Rattle.laying.proofs.Accepted.{accepted}
 use Rattle.histories.specs.Cues.{things_said, told_of}
 

@@ -4,7 +4,6 @@ use Rattle.refusals.specs.declared.Why.{Why}
 use Rattle.refusals.specs.declared.Why.TheVariants.{VisitorRefused}
 use Rattle.words.specs.Words.{bytes_of}
 use Rattle.kinds.specs.Kinds.{size_of}
-use Rattle.settable.specs.declared.value.Value.{Value}
 use Rattle.settable.specs.Values.{value_kind, value_word}
 use Rattle.pods.specs.declared.rows.Row.{Row}
 use Rattle.format.specs.Places.{row_at}

@@ -1,5 +1,5 @@
 -- The plain cue: a string of bytes that is fed only the arguments of calls. Assumes nothing.
-use Rattle.std.specs.Prelude.{◌≡◌, ℕ, Bool, cond, not, ◌&&◌, ◌||◌, List, [], ◌∷◌, length, Some, None as nothing, Ok, Err, Option, Result, ◌==◌, nat_lt}
+use Rattle.std.specs.Prelude.{ℕ, Bool, cond, not, ◌&&◌, ◌||◌, List, [], ◌∷◌, length, Some, None as nothing, Ok, Err, Option, Result, ◌==◌, nat_lt}
 use Rattle.refusals.specs.declared.Why.{Why}
 use Rattle.refusals.specs.declared.Why.TheVariants.{NoParty, NotANumber, NoRow, NotSettable, OtherKind, NoElement, Locked, Forbidden, VisitorRefused}
 use Rattle.kinds.specs.declared.kind.Kind.{Kind}

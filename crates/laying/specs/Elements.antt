@@ -1,5 +1,5 @@
 -- The elements of rows: where they stand, which can be set, and what a look at one answers. Assumes nothing.
-use Rattle.std.specs.Prelude.{◌≡◌, ℕ, ◌+◌, ◌*◌, ◌^◌, ◌<◌, Bool, cond, ◌||◌, List, drop, set, Some, None as no_kind, Option, ◌==◌, slice_index, slice_set}
+use Rattle.std.specs.Prelude.{◌≡◌, ℕ, ◌+◌, ◌*◌, ◌^◌, ◌<◌, Bool, cond, ◌||◌, List, drop, Some, None as no_kind, Option, ◌==◌, slice_index, slice_set}
 use Rattle.words.specs.Words.{bytes_of, lay}
 use Rattle.kinds.specs.declared.kind.Kind.{Kind}
 use Rattle.kinds.specs.Kinds.{kind_of, size_of, said, word_of}

@@ -1,5 +1,5 @@
 -- The word of a float that is a number means that float. Assumes nothing.
-use Rattle.std.proofs.Common.{◌≡◌, ℕ, ◌*◌, ◌<◌, Bool, false, cond, T, Some, None, Option, sym, refl, ap, ◌∙◌, arith}
+use Rattle.std.proofs.Common.{◌≡◌, ℕ, ◌*◌, ◌<◌, false, cond, T, Some, None, sym, ap, ◌∙◌, arith}
 use lib.Ieee.{Float, Format, fits, is_nan, of_bits, to_bits, top}
 use lib.Ieee.Bits.{of_bits-to_bits, to_bits-lt}
 

@@ -1,4 +1,4 @@
-use Rattle.std.proofs.Common.{◌≡◌, Some, sym, ap, ◌∙◌, arith, rules}
+use Rattle.std.proofs.Common.{Some, sym, ap, ◌∙◌, arith, rules}
 use Rattle.pods.specs.declared.choices.ChoiceType.TheVariants.{None, Range, Step, Enum, Flags}
 use Rattle.pods.specs.Choices.{needed}
 use Rattle.histories.specs.Choosing.{row_allows}
@@ -10,8 +10,8 @@ pub returns-then-row-ne-CHOICE : goal.returns-then-row-ne-CHOICE
 unfolding row_allows
 returns-then-row-ne-CHOICE c = search rules
 
-pub returns-in-default : goal.returns-in-default
-returns-in-default c = allows_none c.args.row c.args.kind (look c.args.bytes.now c.args.row) c.args.word c.if-row-ne-CHOICE.false (search rules)
+pub returns-in_default : goal.returns-in_default
+returns-in_default c = allows_none c.args.row c.args.kind (look c.args.bytes.now c.args.row) c.args.word c.if-row-ne-CHOICE.false (search rules)
 
 pub between-requires : goal.between-requires
 between-requires c =

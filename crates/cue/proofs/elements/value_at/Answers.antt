@@ -1,4 +1,4 @@
-use Rattle.std.proofs.Common.{◌≡◌, ◌+◌, ◌≤◌, length, drop, sym, ap, ◌∙◌, arith}
+use Rattle.std.proofs.Common.{◌+◌, ◌≤◌, length, drop, ap, ◌∙◌, arith}
 use Rattle.kinds.specs.Kinds.{size_of}
 use Rattle.laying.specs.Elements.{bytes_by, word_by}
 use Rattle.cue.proofs.Reading.{value_read}

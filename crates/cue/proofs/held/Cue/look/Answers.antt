@@ -1,4 +1,4 @@
-use Rattle.std.proofs.Common.{◌≡◌, ℕ, ◌<◌, get_or, arith, rules}
+use Rattle.std.proofs.Common.{rules}
 use Rattle.cue.proofs.Standing.{sound_row, look_ok, look_out}
 use Rattle.cue.proofs.held.Cue.look.Goals as goal
 
@@ -8,8 +8,8 @@ returns-then-element-found c =
     let o = c.if-not-self.false in
     look_out cue.bytes.now cue.rows.now cue.count (cue.whole o) (cue.stands o) cue.fits c.args.row c.if-row-self.false cue.opened o c.args.element c.if-element-found.true
 
-pub word-at-requires : goal.word-at-requires
-word-at-requires c =
+pub word_at-requires : goal.word_at-requires
+word_at-requires c =
     let cue = c.args.self.now in
     let o = c.if-not-self.false in
     record {
@@ -21,4 +21,4 @@ pub returns : goal.returns
 returns c =
     let cue = c.args.self.now in
     let o = c.if-not-self.false in
-    look_ok cue.bytes.now cue.rows.now cue.count (cue.whole o) (cue.stands o) cue.fits c.args.row c.if-row-self.false cue.opened o c.args.element c.word_at_lem.result c.if-element-found.false c.word_at_lem.ensures
+    look_ok cue.bytes.now cue.rows.now cue.count (cue.whole o) (cue.stands o) cue.fits c.args.row c.if-row-self.false cue.opened o c.args.element c.word_at.result c.if-element-found.false c.word_at.ensures

@@ -1,4 +1,4 @@
-use Rattle.std.proofs.Common.{◌≡◌, sym}
+use Rattle.std.proofs.Common.{sym}
 use Rattle.cue.proofs.Standing.{sound_row, set_checked}
 use Rattle.cue.proofs.held.Cue.permitted.Goals as goal
 
