@@ -1,6 +1,2 @@
-// Histories of calls on a held cue.
+// Histories of calls on a held cue: definitions and lemmas alone, for the contracts of the calls.
 #![tactic(auto)]
-
-pub fn nothing() -> u8 {
-    0
-}
