@@ -1,5 +1,7 @@
 -- The ten kinds whose bodies have a fixed size: type number, size and word. Assumes nothing.
-use Rattle.std.specs.Prelude.{ℕ, cond, List, Some, None as no_kind, Option, ◌==◌}
+use Rattle.std.specs.Prelude.{◌≡◌, ℕ, cond, List, Some, None as no_kind, Option, Result, MatchResult, ◌==◌}
+use Rattle.refusals.specs.declared.Why.{Why}
+use Rattle.refusals.specs.declared.Why.TheVariants.{UnknownType}
 use Rattle.kinds.specs.declared.kind.Kind.{Kind}
 use Rattle.kinds.specs.declared.kind.Kind.TheVariants.{None, Bool, Id, Int, Long, Float, Double, Rectangle, Fraction, Fd}
 use Rattle.words.specs.Words.{little}
@@ -43,6 +45,10 @@ kind_of t =
     (cond (t == 10) (Some Rectangle)
     (cond (t == 11) (Some Fraction)
     (cond (t == 18) (Some Fd) no_kind)))))))))
+
+-- the kind that a type number stands for, or the refusal of a type that is none of the ten
+abbrev pub IsKindOf : ℕ → Result Kind Why → Type 0
+IsKindOf t r = MatchResult r (λ k. Some k ≡ kind_of t) (λ e. (no_kind ≡ kind_of t) × (e ≡ UnknownType))
 
 -- a number as a kind says it: a Bool is 0 or 1
 abbrev pub said : Kind → ℕ → ℕ

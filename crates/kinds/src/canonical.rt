@@ -13,6 +13,7 @@ use crate::numbers::{number32, number64};
 use crate::utils::{Fd, Fraction, Id, Rectangle};
 use refusals::Why;
 use std::num::{f32_from_bits_with_nan, f64_from_bits_with_nan};
+use words::DoubleWord;
 
 // A type of values that one of the ten kinds has; `means` is the value that a word means.
 pub trait CanonicalFixedSizedPod: Sized {
@@ -27,7 +28,7 @@ pub trait CanonicalFixedSizedPod: Sized {
     fn type_number() -> u32
         ensures { result ≡ type_of kind }
     {
-        Self::kind().type_number()
+        u32::from(Self::kind())
     }
 
     // How many bytes a body has, without padding.
@@ -40,22 +41,6 @@ pub trait CanonicalFixedSizedPod: Sized {
     // The value at the front of `body`, which may go on after it.
     fn deserialize_body(body: &[u8]) -> Result<Self, Why>
         ensures { result ≡ body_read kind means body.now };
-}
-
-// A pair's first number stands in the low half of its word.
-#[derive(Clone, Copy)]
-struct Halves {
-    low: u32,
-    high: u32,
-}
-
-fn split(word: u64) -> Halves
-    ensures { result ≡ record { low = word % 2 ^ 32; high = word / 2 ^ 32 } }
-{
-    Halves {
-        low: (word % 0x1_0000_0000) as u32,
-        high: (word / 0x1_0000_0000) as u32,
-    }
 }
 
 impl CanonicalFixedSizedPod for () {
@@ -172,8 +157,7 @@ impl CanonicalFixedSizedPod for Rectangle {
     }
 
     fn deserialize_body(body: &[u8]) -> Result<Rectangle, Why> {
-        let number = number64(body)?;
-        let pair = split(number);
+        let pair = DoubleWord::from(number64(body)?);
         Ok(Rectangle {
             width: pair.low,
             height: pair.high,
@@ -191,8 +175,7 @@ impl CanonicalFixedSizedPod for Fraction {
     }
 
     fn deserialize_body(body: &[u8]) -> Result<Fraction, Why> {
-        let number = number64(body)?;
-        let pair = split(number);
+        let pair = DoubleWord::from(number64(body)?);
         Ok(Fraction {
             num: pair.low,
             denom: pair.high,

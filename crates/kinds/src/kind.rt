@@ -1,12 +1,12 @@
 // The kinds, by number and size.
 ghost use Rattle.std.specs.Prelude.{◌≡◌};
 ghost use Rattle.kinds.specs.Bodies.{body_read};
-ghost use Rattle.kinds.specs.Kinds.{kind_of, size_of, type_of};
+ghost use Rattle.kinds.specs.Kinds.{IsKindOf, size_of, type_of};
 
 use crate::numbers::{number32, number64};
 use refusals::Why;
 
-#[derive(Clone, Copy, PartialEq, Eq)]
+#[derive(Clone, Copy, Debug, PartialEq, Eq)]
 pub enum Kind {
     None,
     Bool,
@@ -20,31 +20,36 @@ pub enum Kind {
     Fd,
 }
 
-impl Kind {
-    // The kind that a type number stands for, if it stands for one of the ten.
-    pub fn from_type(number: u32) -> Option<Kind>
-        ensures { result ≡ kind_of number }
-    {
+// The kind that a type number stands for; the numbers of other types are refused.
+impl TryFrom<u32> for Kind {
+    type Error = Why;
+
+    ghost try_from_gives = { IsKindOf };
+
+    #[tactic(auto, unfolding(crate::specs::Kinds::kind_of))]
+    fn try_from(number: u32) -> Result<Kind, Why> {
         match number {
-            1 => Some(Kind::None),
-            2 => Some(Kind::Bool),
-            3 => Some(Kind::Id),
-            4 => Some(Kind::Int),
-            5 => Some(Kind::Long),
-            6 => Some(Kind::Float),
-            7 => Some(Kind::Double),
-            10 => Some(Kind::Rectangle),
-            11 => Some(Kind::Fraction),
-            18 => Some(Kind::Fd),
-            _ => None,
+            1 => Ok(Kind::None),
+            2 => Ok(Kind::Bool),
+            3 => Ok(Kind::Id),
+            4 => Ok(Kind::Int),
+            5 => Ok(Kind::Long),
+            6 => Ok(Kind::Float),
+            7 => Ok(Kind::Double),
+            10 => Ok(Kind::Rectangle),
+            11 => Ok(Kind::Fraction),
+            18 => Ok(Kind::Fd),
+            _ => Err(Why::UnknownType),
         }
     }
+}
 
-    // The number that stands for this kind in a header.
-    pub fn type_number(self) -> u32
-        ensures { result ≡ type_of self }
-    {
-        match self {
+// The number that stands for a kind in a header.
+impl From<Kind> for u32 {
+    ghost from_gives = { λ kind r. r ≡ type_of kind };
+
+    fn from(kind: Kind) -> u32 {
+        match kind {
             Kind::None => 1,
             Kind::Bool => 2,
             Kind::Id => 3,
@@ -57,7 +62,9 @@ impl Kind {
             Kind::Fd => 18,
         }
     }
+}
 
+impl Kind {
     // How many bytes its body has, without padding.
     pub fn size(self) -> usize
         ensures { result ≡ size_of self }
@@ -77,11 +84,11 @@ impl Kind {
             Kind::None => Ok(0),
             Kind::Bool => {
                 let number = number32(body)?;
-                Ok(if number == 0 { 0 } else { 1 })
+                Ok(u64::from(number != 0))
             }
             Kind::Id | Kind::Int | Kind::Float => {
                 let number = number32(body)?;
-                Ok(number as u64)
+                Ok(u64::from(number))
             }
             Kind::Long | Kind::Double | Kind::Rectangle | Kind::Fraction | Kind::Fd => number64(
                 body,

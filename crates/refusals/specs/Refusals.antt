@@ -1,7 +1,8 @@
--- The number of each refusal, and its sort. Assumes nothing.
-use Rattle.std.specs.Prelude.{ℕ}
+-- The number of each refusal, its sort, and how it is written. Assumes nothing.
+use Rattle.std.specs.Prelude.{ℕ, List, ◌++◌, codes, decimal}
 use Rattle.refusals.specs.declared.Why.{Why}
 use Rattle.refusals.specs.declared.Why.TheVariants.{Missing, OtherType, UnknownType, ChildSize, NoClosingZero, NotUtf8, TooShort, NoChildSize, PointerLength, PastContainer, ChoiceType, TooFewValues, TooDeep, TooLong, NoProperty, OtherKey, NoParty, NotANumber, Shut, TooManyRows, NoRow, NotSettable, OtherKind, NoElement, Locked, Forbidden, VisitorRefused, EndTooEarly, NoElementLeft}
+use Rattle.refusals.specs.declared.Refusal.{Refusal}
 use Rattle.refusals.specs.declared.Sort.{Sort}
 use Rattle.refusals.specs.declared.Sort.TheVariants.{Nom, UnsupportedType, InvalidType, PropertyMissing, PropertyWrongKey, InvalidChoiceType, MissingChoiceValues, Unknown}
 
@@ -67,3 +68,8 @@ sort_of Forbidden = Unknown
 sort_of (VisitorRefused own) = UnsupportedType
 sort_of EndTooEarly = Unknown
 sort_of NoElementLeft = Unknown
+
+-- a refusal as it is written: number, place and depth
+abbrev pub refusal_text : Refusal → List ℕ
+refusal_text e =
+    codes "refused " ++ (decimal (number e.why) ++ (codes " " ++ (decimal e.spot.place ++ (codes " " ++ decimal e.spot.depth))))

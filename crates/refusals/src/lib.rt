@@ -1,11 +1,13 @@
 // Why something is refused, and where.
 #![tactic(auto)]
 
-ghost use Rattle.std.specs.Prelude.{◌≡◌};
-ghost use Rattle.refusals.specs.Refusals.{number as number_of, sort_of};
+ghost use Rattle.std.specs.Prelude.{◌≡◌, Some};
+ghost use Rattle.refusals.specs.Refusals.{number, refusal_text, sort_of};
+
+use std::fmt;
 
 // The reasons, with the values that go with them.
-#[derive(Clone, Copy)]
+#[derive(Clone, Copy, Debug, PartialEq, Eq)]
 pub enum Why {
     // of the bytes that are read
     Missing,
@@ -44,7 +46,7 @@ pub enum Why {
 }
 
 // The cases of the error type of crate libspa, and one for what that crate does not refuse.
-#[derive(Clone, Copy, PartialEq, Eq)]
+#[derive(Clone, Copy, Debug, PartialEq, Eq)]
 pub enum Sort {
     Nom,
     UnsupportedType,
@@ -57,25 +59,25 @@ pub enum Sort {
 }
 
 // Where a pod's header stands, and how deep the pod is; the outermost has depth 1.
-#[derive(Clone, Copy)]
+#[derive(Clone, Copy, Debug, PartialEq, Eq)]
 pub struct Spot {
     pub place: usize,
     pub depth: u32,
 }
 
 // A reason, and the spot of the pod that is refused.
-#[derive(Clone, Copy)]
+#[derive(Clone, Copy, Debug, PartialEq, Eq)]
 pub struct Refusal {
     pub why: Why,
     pub spot: Spot,
 }
 
-impl Why {
-    // The number by which a refusal is told.
-    pub fn number(self) -> u32
-        ensures { result ≡ number_of self }
-    {
-        match self {
+// The number by which a refusal is told.
+impl From<Why> for u32 {
+    ghost from_gives = { λ why r. r ≡ number why };
+
+    fn from(why: Why) -> u32 {
+        match why {
             Why::Missing => 1,
             Why::OtherType => 2,
             Why::UnknownType => 3,
@@ -107,12 +109,14 @@ impl Why {
             Why::NoElementLeft => 31,
         }
     }
+}
 
-    // The case of the crate's error type that a refusal is.
-    pub fn sort(self) -> Sort
-        ensures { result ≡ sort_of self }
-    {
-        match self {
+// The case of the crate's error type that a refusal is.
+impl From<Why> for Sort {
+    ghost from_gives = { λ why r. r ≡ sort_of why };
+
+    fn from(why: Why) -> Sort {
+        match why {
             Why::Missing | Why::OtherType | Why::ChildSize | Why::NoClosingZero | Why::NotUtf8 =>
                 Sort::Nom,
             Why::UnknownType => Sort::InvalidType,
@@ -127,10 +131,24 @@ impl Why {
 }
 
 impl Spot {
+    // Where the outermost pod stands.
+    pub const OUTERMOST: Spot = Spot { place: 0, depth: 1 };
+
     // The refusal of the pod that stands here.
     pub fn refuse(self, why: Why) -> Refusal
         ensures { result ≡ record { why = why; spot = self } }
     {
         Refusal { why, spot: self }
+    }
+}
+
+// Number, place and depth.
+impl fmt::Display for Refusal {
+    ghost output = { λ e. Some (refusal_text e) };
+
+    fn fmt<W: fmt::Write>(&self, f: &mut fmt::Formatter<W>) -> fmt::Result {
+        let number = u32::from(self.why);
+        let Spot { place, depth } = self.spot;
+        write!(f, "refused {number} {place} {depth}")
     }
 }

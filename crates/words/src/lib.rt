@@ -1,8 +1,12 @@
-// Words of 32 bits and padding at the front of some bytes.
+// Words of 32 and 64 bits, and padding at the front of some bytes.
 #![tactic(auto)]
 
 ghost use Rattle.std.specs.Prelude.{◌≡◌, ◌<◌, ◌≤◌, length, MatchOption};
 ghost use Rattle.words.specs.Words.{Halves, little, padded as padded_of};
+
+mod double_word;
+
+pub use double_word::DoubleWord;
 
 // Two words of 32 bits, and the bytes after them.
 #[derive(Clone, Copy)]
