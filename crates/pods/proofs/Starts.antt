@@ -1,9 +1,9 @@
 -- A pod by its header, and bounds of what is counted. Assumes nothing.
-use Rattle.std.proofs.Common.{◌≡◌, ℕ, suc, ◌+◌, ◌-◌, ◌*◌, ◌<◌, ◌≤◌, List, length, IfOk, Ok, Err, Result, refl, ap, ◌∙◌, add_assoc, arith}
+use Rattle.std.proofs.Common.{◌≡◌, ℕ, suc, ◌+◌, ◌-◌, ◌*◌, ◌<◌, ◌≤◌, List, length, IfOk, Ok, Err, Result, refl, sym, ap, ◌∙◌, add_assoc, arith}
 use Rattle.std.proofs.lemmas.Bool.{lt-ltb, le-ltb, eq-eqb, ne_eqb}
 use Rattle.refusals.specs.declared.Refusal.{Refusal}
 use Rattle.refusals.specs.declared.Spot.{Spot}
-use Rattle.refusals.specs.declared.Why.TheVariants.{Missing, TooShort, TooDeep}
+use Rattle.refusals.specs.declared.Why.TheVariants.{Missing, TooShort, TooDeep, UnknownType}
 use Rattle.words.specs.Words.{Halves}
 use Rattle.pods.specs.declared.holding.Holds.{Holds}
 use Rattle.pods.specs.declared.holding.Holds.TheVariants.{Fields, Properties}
@@ -11,8 +11,12 @@ use Rattle.pods.specs.declared.reading.Surveyed.{Surveyed}
 use Rattle.pods.specs.Trees.{Tree, Forest, Leaf, struct, object, count, counts}
 use Rattle.pods.specs.Outcomes.{Outcome, gave, refused, refuse, mapped, after, sized}
 use Rattle.pods.specs.Leaves.{leaf_body}
+use Rattle.pods.specs.declared.types.PodType.{PodType}
+use Rattle.pods.specs.declared.types.PodType.TheVariants.{Struct, Object}
+use Rattle.pods.specs.Types.{type_number}
 use Rattle.pods.specs.Pods.{Reader, spot_at, items, object_body, leaf_tree, body, pod}
 use Rattle.pods.specs.Survey.{answered}
+use Rattle.pods.proofs.Numbers.{only_struct, only_object, no_leaf}
 use Rattle.pods.proofs.Sizes.{Given, Sized, ItemsSized, leaf_fits, items_sized, pod_sized}
 
 pub too_deep : (room depth place : ℕ) (bs : List ℕ) → room ≡ 0 → pod room depth place bs ≡ refuse TooDeep (spot_at place depth)
@@ -71,10 +75,20 @@ module _ (inner room depth deeper place : ℕ) (bs : List ℕ) (e : room ≡ suc
         ap (mapped count) by_header ∙ mapped_after count 8 _
         ∙ ap (after 8) (rw (eq-eqb kind 14 k) (struct_opened (items Fields read spot len len (place + 8) rest)))
 
-    pub is_leaf : (kind ≡ 14 → ⊥) → (kind ≡ 15 → ⊥) → mapped count (pod room depth place bs) ≡ after 8 (alone (sized (leaf_body len kind spot rest)))
-    is_leaf n m =
+    by_leaf : (kind ≡ 14 → ⊥) → (kind ≡ 15 → ⊥) → mapped count (pod room depth place bs) ≡ after 8 (alone (sized (leaf_body len kind spot rest)))
+    by_leaf n m =
         ap (mapped count) by_header ∙ mapped_after count 8 _
         ∙ ap (after 8) (rw (ne_eqb kind 14 n, ne_eqb kind 15 m) (leaf_alone (leaf_body len kind spot rest)))
+
+    pub is_leaf : (t : PodType) → type_number t ≡ kind → (t ≡ Struct → ⊥) → (t ≡ Object → ⊥) → mapped count (pod room depth place bs) ≡ after 8 (alone (sized (leaf_body len (type_number t) spot rest)))
+    is_leaf t is n m =
+        by_leaf (λ e. n (only_struct t (is ∙ e))) (λ e. m (only_object t (is ∙ e)))
+        ∙ ap (λ k. after 8 (alone (sized (leaf_body len k spot rest)))) (sym is)
+
+    pub is_unknown : ((t : PodType) → type_number t ≡ kind → ⊥) → mapped count (pod room depth place bs) ≡ refuse UnknownType spot
+    is_unknown none =
+        by_leaf (λ e. none Struct (sym e)) (λ e. none Object (sym e))
+        ∙ ap (λ o. after 8 (alone (sized o))) (no_leaf kind len spot rest none)
 
     object_by : kind ≡ 15 → mapped count (pod room depth place bs) ≡ after 8 (mapped count (object_body read len spot rest))
     object_by k = ap (mapped count) by_header ∙ mapped_after count 8 _ ∙ ap (after 8) (rw k)

@@ -1,5 +1,7 @@
 -- The five choice types. Assumes nothing.
-use Rattle.std.specs.Prelude.{ℕ, cond, Some, None as no_choice, Option, ◌==◌}
+use Rattle.std.specs.Prelude.{◌≡◌, ℕ, cond, Some, None as no_choice, Option, Result, MatchResult, ◌==◌}
+use Rattle.refusals.specs.declared.Why.{Why}
+use Rattle.refusals.specs.declared.Why.TheVariants.{ChoiceType as OtherChoice}
 use Rattle.pods.specs.declared.choices.ChoiceType.{ChoiceType}
 use Rattle.pods.specs.declared.choices.ChoiceType.TheVariants.{None, Range, Step, Enum, Flags}
 
@@ -17,6 +19,10 @@ choice_type_of n =
     (cond (n == 2) (Some Step)
     (cond (n == 3) (Some Enum)
     (cond (n == 4) (Some Flags) no_choice))))
+
+-- the choice type that a number stands for, or the refusal of a number that stands for none
+abbrev pub IsChoiceTypeOf : ℕ → Result ChoiceType Why → Type 0
+IsChoiceTypeOf n r = MatchResult r (λ c. Some c ≡ choice_type_of n) (λ e. (no_choice ≡ choice_type_of n) × (e ≡ OtherChoice))
 
 -- how many values there have to be: the default; then minimum and maximum; and then a step
 abbrev pub needed : ChoiceType → ℕ

@@ -1,3 +1,4 @@
+pub mod Types
 pub mod Choices
 pub mod Trees
 pub mod Rows

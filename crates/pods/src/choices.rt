@@ -1,8 +1,10 @@
 // The choice types.
 ghost use Rattle.std.specs.Prelude.{◌≡◌};
-ghost use Rattle.pods.specs.Choices.{choice_type_of, flags_kept, needed as needed_of, used_of};
+ghost use Rattle.pods.specs.Choices.{IsChoiceTypeOf, flags_kept, needed as needed_of, used_of};
 
-#[derive(Clone, Copy, PartialEq, Eq)]
+use refusals::Why;
+
+#[derive(Clone, Copy, Debug, PartialEq, Eq)]
 pub enum ChoiceType {
     None,
     Range,
@@ -11,21 +13,26 @@ pub enum ChoiceType {
     Flags,
 }
 
-impl ChoiceType {
-    // The choice type that a number stands for.
-    pub fn from_number(number: u32) -> Option<ChoiceType>
-        ensures { result ≡ choice_type_of number }
-    {
+// The choice type that a number stands for; other numbers are refused.
+impl TryFrom<u32> for ChoiceType {
+    type Error = Why;
+
+    ghost try_from_gives = { IsChoiceTypeOf };
+
+    #[tactic(auto, unfolding(crate::specs::Choices::choice_type_of))]
+    fn try_from(number: u32) -> Result<ChoiceType, Why> {
         match number {
-            0 => Some(ChoiceType::None),
-            1 => Some(ChoiceType::Range),
-            2 => Some(ChoiceType::Step),
-            3 => Some(ChoiceType::Enum),
-            4 => Some(ChoiceType::Flags),
-            _ => None,
+            0 => Ok(ChoiceType::None),
+            1 => Ok(ChoiceType::Range),
+            2 => Ok(ChoiceType::Step),
+            3 => Ok(ChoiceType::Enum),
+            4 => Ok(ChoiceType::Flags),
+            _ => Err(Why::ChoiceType),
         }
     }
+}
 
+impl ChoiceType {
     // How many values a choice of this type needs.
     pub fn needed(self) -> usize
         ensures { result ≡ needed_of self }

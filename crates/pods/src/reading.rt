@@ -5,8 +5,9 @@ ghost use Rattle.pods.specs.Outcomes.{mapped, refused, taken};
 ghost use Rattle.pods.specs.Pods.{ahead, items, pod as pod_of};
 ghost use Rattle.pods.specs.Survey.{answered, Remains, survey_of};
 
+use crate::body::Body;
 use crate::holding::Holds;
-use crate::leaves::leaf;
+use crate::types::PodType;
 use refusals::{Refusal, Spot, Why};
 use words::two_words;
 
@@ -15,12 +16,8 @@ const LIMIT: usize = 65_536;
 
 const ROOM: u32 = 32;
 
-const STRUCT: u32 = 14;
-
-const OBJECT: u32 = 15;
-
 // How many rows a cue has, one for each pod, and how many bytes it uses.
-#[derive(Clone, Copy, PartialEq, Eq)]
+#[derive(Clone, Copy, Debug, PartialEq, Eq)]
 pub struct Surveyed {
     pub rows: usize,
     pub used: usize,
@@ -32,8 +29,7 @@ pub fn survey(bytes: &[u8]) -> Result<Surveyed, Refusal>
     ensures within { IfOk result (λ s. (s.used ≤ length bytes.now) × (8 * s.rows ≤ s.used)) }
 {
     if too_long(bytes) {
-        let start = Spot { place: 0, depth: 1 };
-        return Err(start.refuse(Why::TooLong));
+        return Err(Spot::OUTERMOST.refuse(Why::TooLong));
     }
     pod(bytes, 0, ROOM)
 }
@@ -49,8 +45,7 @@ fn too_long(bytes: &[u8]) -> bool
 pub fn remaining(bytes: &[u8]) -> Result<&[u8], Refusal>
     ensures { MatchResult result (λ left. Remains bytes.now (survey_of bytes.now) left.now) (λ e. survey_of bytes.now ≡ refused e) }
 {
-    let found = survey(bytes)?;
-    let used = found.used;
+    let Surveyed { used, .. } = survey(bytes)?;
     Ok(&bytes[used..])
 }
 
@@ -72,15 +67,15 @@ fn pod(input: &[u8], place: usize, room: u32) -> Result<Surveyed, Refusal>
         return Err(spot.refuse(Why::Missing));
     };
     let len = head.first as usize;
-    match head.second {
-        STRUCT => {
+    match PodType::try_from(head.second).map_err(|why| spot.refuse(why))? {
+        PodType::Struct => {
             let held = container(Holds::Fields, head.rest, len, place + 8, spot, room - 1)?;
             Ok(Surveyed {
                 rows: held.rows + 1,
                 used: held.used + 8,
             })
         }
-        OBJECT => {
+        PodType::Object => {
             let Some(named) = two_words(head.rest) else {
                 return Err(spot.refuse(Why::Missing));
             };
@@ -101,7 +96,12 @@ fn pod(input: &[u8], place: usize, room: u32) -> Result<Surveyed, Refusal>
             })
         }
         kind => {
-            let used = leaf(len, kind, head.rest, spot)?;
+            let body = Body {
+                len,
+                rest: head.rest,
+                spot,
+            };
+            let used = body.leaf(kind)?;
             Ok(Surveyed {
                 rows: 1,
                 used: used + 8,

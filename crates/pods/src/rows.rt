@@ -1,5 +1,5 @@
 // One pod of a cue, as a row of a table; what a pod does not have is 0.
-#[derive(Clone, Copy, PartialEq, Eq)]
+#[derive(Clone, Copy, Debug, Default, PartialEq, Eq)]
 pub struct Row {
     // where its header stands
     pub place: u32,

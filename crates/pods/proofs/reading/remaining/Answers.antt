@@ -5,5 +5,5 @@ use Rattle.pods.proofs.reading.remaining.Goals as goal
 
 pub returns : goal.returns
 returns c =
-    subst (λ o. Remains c.args.bytes.now o (take (length c.args.bytes.now - c.in_ok-found.found.used) (drop c.in_ok-found.found.used c.args.bytes.now)))
-    c.in_ok-found.ensures.answer (take_rest c.args.bytes.now c.in_ok-found.found.used)
+    subst (λ o. Remains c.args.bytes.now o (take (length c.args.bytes.now - c.in_ok-used.field-0.used) (drop c.in_ok-used.field-0.used c.args.bytes.now)))
+    c.in_ok-used.ensures.answer (take_rest c.args.bytes.now c.in_ok-used.field-0.used)
