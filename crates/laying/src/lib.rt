@@ -5,36 +5,26 @@ ghost use Rattle.laying.specs.Laws.{ElementsApart, LayingKeeps, LooksStand, Rows
 ghost use Rattle.laying.specs.Lines.{LinesLaid};
 
 // What the rows of an accepted cue are like.
-pub fn rows_fit() -> u8
+pub fn rows_fit()
     ensures { RowsFit }
-{
-    0
-}
+{}
 
 // A look at a row and the bytes answers what the cue says.
-pub fn looks_stand() -> u8
+pub fn looks_stand()
     ensures { LooksStand }
-{
-    0
-}
+{}
 
 // Elements stand in the bytes that a cue uses, each apart from the others.
-pub fn elements_apart() -> u8
+pub fn elements_apart()
     ensures { ElementsApart }
-{
-    0
-}
+{}
 
 // Laying a value at an element changes just that value.
-pub fn laying_keeps() -> u8
+pub fn laying_keeps()
     ensures { LayingKeeps }
-{
-    0
-}
+{}
 
 // What looks at worked lines answer, and what laying in them gives.
-pub fn lines_laid() -> u8
+pub fn lines_laid()
     ensures { LinesLaid }
-{
-    0
-}
+{}
