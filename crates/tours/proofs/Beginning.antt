@@ -1,8 +1,8 @@
 -- The starts of pods that hold no pods. Assumes nothing.
-use Rattle.std.proofs.Common.{◌≡◌, ℕ, ◌+◌, ◌-◌, ◌<◌, ◌≤◌, ◌⊎◌, List, [], map, length, get_or, take, drop, Some, None, Ok, Err, sym, ap, ◌∙◌, inl, inr, arith, length-drop}
-use Rattle.std.proofs.lemmas.List.{take_rest, take_all, drop_all, drop-drop}
+use Rattle.std.proofs.Common.{◌≡◌, ℕ, ◌+◌, ◌<◌, ◌≤◌, ◌⊎◌, List, [], map, length, get_or, take, drop, Some, None, Ok, Option, sym, ap, subst, ◌∙◌, inl, inr, arith, length-drop}
+use Rattle.std.proofs.lemmas.List.{take_all, drop_all, drop-drop}
 use Rattle.std.proofs.lemmas.Bool.{eq-eqb, ne_eqb, le-ltb}
-use Rattle.refusals.specs.declared.Why.{Why}
+use Rattle.std.specs.Result.{result_ok}
 use Rattle.words.specs.Words.{little, Halves}
 use Rattle.words.proofs.Places.{little_drop, little_front}
 use Rattle.kinds.specs.declared.kind.Kind.{Kind}
@@ -12,13 +12,20 @@ use Rattle.kinds.specs.Bodies.{body_read}
 use Rattle.kinds.proofs.Types.{kind_of_type}
 use Rattle.pods.specs.declared.choices.ChoiceType.{ChoiceType}
 use Rattle.pods.specs.declared.choices.ChoiceType.TheVariants.{None as NoChoice, Range, Step, Enum, Flags}
+use Rattle.pods.specs.Leaves.{values}
+use Rattle.pods.specs.Trees.{Leaf, leaf}
 use Rattle.pods.specs.Choices.{choice_number, choice_type_of, needed, used_of, flags_kept}
 use Rattle.format.proofs.Complete.{choice_of_number}
-use Rattle.format.specs.Layout.{word_at, ArrayCounted, ChoiceLaid, Values}
+use Rattle.format.specs.Layout.{word_at, ArrayCounted, ChoiceLaid, Values, BodyLaid, Laid}
 use Rattle.format.proofs.Values.{word_front, only_values}
+use Rattle.tours.specs.declared.begun.Begun.{Begun}
 use Rattle.tours.specs.RowsTold.{part}
 use Rattle.tours.specs.Told.{pod, element, choice_of}
-use Rattle.tours.specs.Starts.{elements_left, pointer_kind, values_in}
+use Rattle.tours.specs.Starts.{pointer_kind, values_in}
+
+-- the body that is laid out behind a header that was read
+pub body_laid : (b : Begun) (l : Leaf) (size : ℕ) → Laid b.bytes.now (leaf l size) b.at → (b.at + 8 + size ≤ length b.bytes.now) × BodyLaid b.bytes.now (b.at + 8) b.len l size
+body_laid b l size h = (h.0.there, subst (λ n. BodyLaid b.bytes.now (b.at + 8) n l size) (sym b.declared) h.1)
 
 -- the two words at place b
 pub record HeadAt (bytes : List ℕ) (b first second : ℕ) (rest : List ℕ) : Type 0 where
@@ -27,9 +34,9 @@ pub record HeadAt (bytes : List ℕ) (b first second : ℕ) (rest : List ℕ) : 
   pub second_is : second ≡ little 4 (b + 4) bytes
   pub rest_is : rest ≡ drop (b + 8) bytes
 
-pub head_at : (bytes : List ℕ) (b first second : ℕ) (rest : List ℕ) → b ≤ length bytes → Halves (take (length bytes - b) (drop b bytes)) first second rest → HeadAt bytes b first second rest
-head_at bytes b first second rest le h =
-    let e = take_rest bytes b in
+-- the two words at the front of the bytes behind place b
+pub head_in : (bytes body : List ℕ) (b first second : ℕ) (rest : List ℕ) → body ≡ drop b bytes → b ≤ length bytes → Halves body first second rest → HeadAt bytes b first second rest
+head_in bytes body b first second rest e le h =
     record {
       there = omega (arith, h.whole, ap length e, length-drop b bytes);
       first_is = h.first_is ∙ ap (little 4 0) e ∙ little_front 4 b bytes;
@@ -60,22 +67,25 @@ some_kind t k e s =
     omega arith
 
 -- a word that was read is the one that is laid out
-pub word_read : (k : Kind) (b word : ℕ) (bytes body : List ℕ) → body ≡ drop b bytes → Ok word ≡ body_read k (λ w. w) body → size_of k ≤ length body → word ≡ word_at k b bytes
+pub word_read : (k : Kind) (b word : ℕ) (bytes body : List ℕ) → body ≡ drop b bytes → Some word ≡ result_ok (body_read k (λ w. w) body) → size_of k ≤ length body → word ≡ word_at k b bytes
 word_read k b word bytes body is e le =
-    let there : Ok word ≡ Ok (word_of k body) = e ∙ rw (le-ltb (length body) (size_of k) le) in
+    let read : body_read k (λ w. w) body ≡ Ok (word_of k body) = rw (le-ltb (length body) (size_of k) le) in
+    let there : Some word ≡ Some (word_of k body) = e ∙ ap result_ok read in
     let same : word ≡ word_of k body = cc in
     same ∙ ap (word_of k) is ∙ word_front k b bytes
 
-pub word_there : (k : Kind) (body : List ℕ) (why : Why) → Err why ≡ body_read k (λ w. w) body → size_of k ≤ length body → ⊥
-word_there k body why e le =
-    let there : Err why ≡ Ok (word_of k body) = e ∙ rw (le-ltb (length body) (size_of k) le) in
+pub word_there : (k : Kind) (body : List ℕ) → None ≡ result_ok (body_read k (λ w. w) body) → size_of k ≤ length body → ⊥
+word_there k body e le =
+    let read : body_read k (λ w. w) body ≡ Ok (word_of k body) = rw (le-ltb (length body) (size_of k) le) in
+    let there : ◌≡◌ {A = Option ℕ} None (Some (word_of k body)) = e ∙ ap result_ok read in
     let z : ◌≡◌ {A = ℕ} 0 1 = cc in
     omega arith
 
 -- the values that are still to be told are those that are laid out
-pub elements_are : (bytes : List ℕ) (k child : Kind) (at b n : ℕ) (words : List ℕ) → child ≡ k → at ≡ b → length words ≡ n → Values bytes k b words → map (element (type_of k)) words ≡ elements_left bytes (record { kind = child; at = at; left = n })
-elements_are bytes k child at b n words ek eb en v =
-    rw (ek, eb) (ap (map (element (type_of k))) (sym (only_values bytes k n b words en v)))
+pub elements_are : (bytes rest : List ℕ) (k child : Kind) (b n : ℕ) (words : List ℕ) → child ≡ k → rest ≡ drop b bytes → length words ≡ n → Values bytes k b words
+    → map (element (type_of k)) words ≡ map (element (type_of child)) (values child (size_of child) n rest)
+elements_are bytes rest k child b n words ek er en v =
+    rw (ek, er) (ap (map (element (type_of k))) (sym (only_values bytes k n b words en v)))
 
 pub array_count_lem : (s len n : ℕ) → ArrayCounted s len n → values_in len 8 s ≡ n
 array_count_lem s len n (inl (z, e)) = rw (eq-eqb s 0 z) (sym e)
@@ -89,14 +99,14 @@ pub part_rest : (n from : ℕ) (bytes : List ℕ) → length (drop from bytes) �
 part_rest n from bytes h = sym (take_all n (drop from bytes) h)
 
 -- a pointer that was read is the one that is laid out
-pub pointer_word : (bytes : List ℕ) (b len word got : ℕ) (kind : Kind) (rest : List ℕ) → rest ≡ drop (b + 8) bytes → b + 8 + 8 ≤ length bytes → kind ≡ pointer_kind len → Ok got ≡ body_read kind (λ w. w) rest
+pub pointer_word : (bytes : List ℕ) (b len word got : ℕ) (kind : Kind) (rest : List ℕ) → rest ≡ drop (b + 8) bytes → b + 8 + 8 ≤ length bytes → kind ≡ pointer_kind len → Some got ≡ result_ok (body_read kind (λ w. w) rest)
     → ((len ≡ 16) × (word ≡ little 8 (b + 8) bytes)) ⊎ ((len ≡ 12) × (word ≡ little 4 (b + 8) bytes)) → got ≡ word
 pointer_word bytes b len word got kind rest is there kind_is e (inl (l, w)) =
     let k : kind ≡ Long = kind_is ∙ rw (eq-eqb len 16 l) in
-    word_read Long (b + 8) got bytes rest is (e ∙ ap (λ x. body_read x (λ w. w) rest) k) (omega (arith, ap length is, length-drop (b + 8) bytes)) ∙ sym w
+    word_read Long (b + 8) got bytes rest is (e ∙ ap (λ x. result_ok (body_read x (λ w. w) rest)) k) (omega (arith, ap length is, length-drop (b + 8) bytes)) ∙ sym w
 pointer_word bytes b len word got kind rest is there kind_is e (inr (l, w)) =
     let k : kind ≡ Id = kind_is ∙ rw (ne_eqb len 16 (λ z. omega arith)) in
-    word_read Id (b + 8) got bytes rest is (e ∙ ap (λ x. body_read x (λ w. w) rest) k) (omega (arith, ap length is, length-drop (b + 8) bytes)) ∙ sym w
+    word_read Id (b + 8) got bytes rest is (e ∙ ap (λ x. result_ok (body_read x (λ w. w) rest)) k) (omega (arith, ap length is, length-drop (b + 8) bytes)) ∙ sym w
 
 -- what stands before the values of a choice that is laid out
 pub record ChoiceHead (c : ChoiceType) (k : Kind) (flags n number declared second count : ℕ) : Type 0 where

@@ -3,7 +3,9 @@ pub mod Beginning
 pub mod Only
 pub mod Retold
 pub mod Filling
-pub mod Telling
+pub mod NextValue
+pub mod Leading
+pub mod Giving
 pub mod ByteSteps
 pub mod Touring
 pub mod RowSteps

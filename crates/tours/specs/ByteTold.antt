@@ -6,10 +6,8 @@ use Rattle.pods.specs.Trees.{Tree, Forest, totals, deep, deepest}
 use Rattle.pods.specs.Outcomes.{Outcome, gave, refused}
 use Rattle.pods.specs.Pods.{items, pod, spot_at}
 use Rattle.format.specs.Layout.{Laid, AllLaid}
-use Rattle.tours.specs.declared.elements.Elements.{Elements}
 use Rattle.tours.specs.declared.open.Frame.{Frame}
 use Rattle.tours.specs.Told.{Thing, end, tells, tells_all}
-use Rattle.tours.specs.Starts.{elements_left, There}
 
 abbrev pub tree_told : Outcome Tree → List Thing
 tree_told (gave t used) = tells t 0
@@ -36,8 +34,8 @@ abbrev pub unkeyed : Bool → List Thing → List Thing
 unkeyed true ts = drop 1 ts
 unkeyed false ts = ts
 
-abbrev pub to_tell : List ℕ → ℕ → List Frame → Bool → Elements → List Thing
-to_tell bytes p fs keyed e = elements_left bytes e ++ unkeyed keyed (place_told bytes p fs)
+abbrev pub to_tell : List ℕ → ℕ → List Frame → Bool → List Thing
+to_tell bytes p fs keyed = unkeyed keyed (place_told bytes p fs)
 
 -- what open containers hold from place p on is laid out there
 abbrev pub FramesLaid : List ℕ → ℕ → List Frame → Type 0
@@ -55,11 +53,6 @@ KeyedRight true (f ∷ fs) = (f.holds ≡ Properties) × (0 < f.remaining)
 abbrev pub Standing : List ℕ → ℕ → List Frame → Bool → Type 0
 Standing bytes zero fs keyed = (fs ≡ []) × (keyed ≡ false) × ((t : Tree) × Laid bytes t 0 × (deep t ≤ 32))
 Standing bytes (suc p) fs keyed = (suc p ≤ length bytes) × FramesLaid bytes (suc p) fs × KeyedRight keyed fs
-
-pub record Sound (bytes : List ℕ) (p : ℕ) (fs : List Frame) (keyed : Bool) (e : Elements) : Type 0 where
-  pub short : length bytes ≤ 65536
-  pub there : There bytes e
-  pub stands : Standing bytes p fs keyed
 
 -- a pod is due: the first of all, or one in a container with bytes left, whose property has been told
 abbrev pub Due : Holds → ℕ → List Frame → Bool → Type 0

@@ -9,5 +9,6 @@ pub mod Starts
 pub mod Alike
 pub mod Filled
 pub mod ByteTold
+pub mod BytesLeft
 pub mod RowsLeft
 pub mod Rowed

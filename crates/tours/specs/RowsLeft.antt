@@ -1,5 +1,5 @@
 -- What a teller of rows has still to tell. Assumes nothing.
-use Rattle.std.specs.Prelude.{◌≡◌, ℕ, ◌+◌, Bool, false, cond, not, List, [], ◌∷◌, ◌++◌, drop}
+use Rattle.std.specs.Prelude.{◌≡◌, ℕ, Bool, false, cond, not, List, [], ◌∷◌, ◌++◌}
 use Rattle.pods.specs.declared.holding.Holds.{Holds}
 use Rattle.pods.specs.declared.holding.Holds.TheVariants.{Fields, Properties}
 use Rattle.pods.specs.declared.rows.Row.{Row}
@@ -8,7 +8,7 @@ use Rattle.tours.specs.declared.row_tour.RowTeller.{RowTeller}
 use Rattle.tours.specs.Told.{Thing, pod, property}
 use Rattle.tours.specs.Stack.{levels}
 use Rattle.tours.specs.RowsTold.{row_content, row_elements, ends, unended, holding, behind, rows_tell}
-use Rattle.tours.specs.Starts.{There, elements_left}
+use Rattle.tours.specs.Starts.{elements_left}
 
 -- whether key and flags are still to be told before a pod
 abbrev pub is_due : Bool → Holds → Bool
@@ -31,13 +31,8 @@ Pending (f ∷ outer) = f.remaining ≡ 0 → ⊥
 
 -- the values of the row before, and then the rows
 abbrev pub to_tell : RowTeller → List Thing
-to_tell s = elements_left s.bytes.now s.elements ++ rows_left s.bytes.now s.keyed (levels s.open) (drop s.at s.rows.now)
+to_tell s = elements_left s.values ++ rows_left s.bytes.now s.keyed (levels s.open) s.rows.now
 
--- what is still to be told behind the pod of a row
+-- what is told behind the pod of a row, where the rows after it are left
 abbrev pub after_pod : RowTeller → Row → List Thing
-after_pod s r =
-    row_elements s.bytes.now r ++ rows_left s.bytes.now false (behind r (levels s.open)) (drop (s.at + 1) s.rows.now)
-
--- the values that are still to be told are there
-abbrev pub Whole : RowTeller → Type 0
-Whole s = There s.bytes.now s.elements
+after_pod s r = row_elements s.bytes.now r ++ rows_left s.bytes.now false (behind r (levels s.open)) s.rows.now

@@ -1,11 +1,13 @@
 -- What a pod tells first, and what comes after that. Assumes nothing.
-use Rattle.std.specs.Prelude.{◌≡◌, ℕ, ◌+◌, ◌-◌, ◌*◌, ◌/◌, ◌≤◌, cond, List, [], map, length, drop, Some, None, Option, ◌==◌}
+use Rattle.std.specs.Prelude.{◌≡◌, ℕ, ◌+◌, ◌-◌, ◌/◌, cond, List, [], map, Some, None, Option, ◌==◌}
 use Rattle.kinds.specs.declared.kind.Kind.{Kind}
 use Rattle.kinds.specs.declared.kind.Kind.TheVariants.{Long, Id}
 use Rattle.kinds.specs.Kinds.{size_of, type_of}
 use Rattle.pods.specs.declared.holding.Holds.TheVariants.{Fields, Properties}
 use Rattle.pods.specs.Trees.{Tree, Leaf, leaf, struct, object, total}
 use Rattle.pods.specs.Leaves.{values}
+use Rattle.format.specs.Layout.{Laid}
+use Rattle.tours.specs.declared.begun.Begun.{Begun}
 use Rattle.tours.specs.declared.elements.Elements.{Elements}
 use Rattle.tours.specs.declared.starts.Start.{Start}
 use Rattle.tours.specs.declared.starts.Then.{Then}
@@ -13,18 +15,14 @@ use Rattle.tours.specs.declared.starts.Then.TheVariants.{On, Values, Into}
 use Rattle.tours.specs.Told.{Content, struct_open, object_open, Thing, pod, element, thing, content_of, elements_of}
 
 -- the values that are still to be told
-abbrev pub elements_left : List ℕ → Elements → List Thing
-elements_left bytes e = map (element (type_of e.kind)) (values e.kind (size_of e.kind) e.left (drop e.at bytes))
-
--- they are all there
-abbrev pub There : List ℕ → Elements → Type 0
-There bytes e = e.at + e.left * size_of e.kind ≤ length bytes
+abbrev pub elements_left : Elements → List Thing
+elements_left e = map (element (type_of e.kind)) (values e.kind (size_of e.kind) e.left e.bytes.now)
 
 -- what comes after a pod that holds no pods are these things
-abbrev pub Follows : List ℕ → Then → List Thing → Type 0
-Follows bytes On ts = ts ≡ []
-Follows bytes (Values e) ts = (ts ≡ elements_left bytes e) × There bytes e
-Follows bytes (Into h) ts = ⊥
+abbrev pub Follows : Then → List Thing → Type 0
+Follows On ts = ts ≡ []
+Follows (Values e) ts = ts ≡ elements_left e
+Follows (Into h) ts = ⊥
 
 -- how many values of s bytes a length has room for after `head` bytes
 abbrev pub values_in : (len head s : ℕ) → ℕ
@@ -40,15 +38,19 @@ pub record Begins (place size : ℕ) (c : Content) (after : Then → Type 0) (s 
   pub total_is : s.total ≡ size
   pub then_is : after s.then
 
-abbrev pub BeginsLeaf : List ℕ → (place size : ℕ) → Leaf → Option Start → Type 0
-BeginsLeaf bytes place size l None = ⊥
-BeginsLeaf bytes place size l (Some s) = Begins place (size + 8) (content_of l) (λ t. Follows bytes t (elements_of l)) s
+abbrev pub BeginsLeaf : (place size : ℕ) → Leaf → Option Start → Type 0
+BeginsLeaf place size l None = ⊥
+BeginsLeaf place size l (Some s) = Begins place (size + 8) (content_of l) (λ t. Follows t (elements_of l)) s
 
 -- the answer is the start of this tree
-abbrev pub BeginsTree : List ℕ → (place : ℕ) → Tree → Option Start → Type 0
-BeginsTree bytes place (leaf l size) r = BeginsLeaf bytes place size l r
-BeginsTree bytes place (struct f) None = ⊥
-BeginsTree bytes place (struct f) (Some s) = Begins place (total (struct f)) struct_open (λ t. t ≡ Into Fields) s
-BeginsTree bytes place (object type id f) None = ⊥
-BeginsTree bytes place (object type id f) (Some s) =
+abbrev pub BeginsTree : (place : ℕ) → Tree → Option Start → Type 0
+BeginsTree place (leaf l size) r = BeginsLeaf place size l r
+BeginsTree place (struct f) None = ⊥
+BeginsTree place (struct f) (Some s) = Begins place (total (struct f)) struct_open (λ t. t ≡ Into Fields) s
+BeginsTree place (object type id f) None = ⊥
+BeginsTree place (object type id f) (Some s) =
     Begins place (total (object type id f)) (object_open type id) (λ t. t ≡ Into Properties) s
+
+-- the answer is the start of this tree, if it is laid out where the header was read
+abbrev pub Starts : Begun → Tree → Option Start → Type 0
+Starts b t r = Laid b.bytes.now t b.at → BeginsTree b.at t r

@@ -1,21 +1,19 @@
 // Tells what a cue tells, from its bytes.
-ghost use Rattle.std.specs.Prelude.{◌≡◌, ◌+◌, ◌<◌, ◌≤◌, true, false, length};
-ghost use Rattle.pods.specs.declared.holding.Holds.TheVariants.{Properties as PropertiesHeld};
-ghost use Rattle.pods.specs.Trees.{past as past_of};
-ghost use Rattle.tours.specs.ByteTold.{Due, Sound, to_tell};
-ghost use Rattle.tours.specs.Lead.{Next};
+ghost use Rattle.std.specs.Prelude.{◌≡◌, ◌≤◌, length};
+ghost use Rattle.tours.specs.ByteTold.{Standing};
 ghost use Rattle.tours.specs.Stack.{levels};
 ghost use Rattle.tours.specs.Told.{told_by};
 ghost use Rattle.tours.specs.Tours.{Toured, tour};
 
 use crate::elements::Elements;
-use crate::open::{Frame, Open};
+use crate::open::{Frame, Open, past};
 use crate::starts::{Then, start_at};
 use crate::stop::Stop;
-use crate::teller::{Teller, tell_all};
+use crate::telling::tell_all;
 use crate::told::Told;
 use crate::visitor::Visitor;
 use pods::{Holds, survey};
+use refusals::Refusal;
 use words::two_words;
 
 // Stands at the next pod of bytes that a survey has accepted, or at the property before it.
@@ -25,16 +23,24 @@ pub struct ByteTeller<'a> {
     at: usize,
     open: Open,
     keyed: bool,
-    elements: Elements,
+    values: Elements<'a>,
+    ghost short: { length bytes.now ≤ 65536 },
+    ghost stands: { ∥ Standing bytes.now at (levels «open») keyed ∥₁ },
 }
 
-impl<'a> Teller<'a> for ByteTeller<'a> {
-    ghost sound = { λ s. Sound s.bytes.now s.at (levels s.open) s.keyed s.elements };
+impl<'a> Iterator for ByteTeller<'a> {
+    ghost use Rattle.std.specs.Iterator.{YieldsFirstBy, item_count};
+    ghost use Rattle.tours.specs.BytesLeft.{to_tell};
+    ghost use Rattle.tours.specs.Told.{thing};
 
-    ghost tells = { λ s. to_tell s.bytes.now s.at (levels s.open) s.keyed s.elements };
+    type Item = Told<'a>;
+
+    ghost next_gives = { YieldsFirstBy thing to_tell };
+
+    ghost remaining = { item_count to_tell };
 
     fn next(&mut self) -> Option<Told<'a>> {
-        if let Some(told) = self.elements.next(self.bytes) {
+        if let Some(told) = self.values.next() {
             return Some(told);
         }
         let Some(frame) = self.open.innermost() else {
@@ -60,27 +66,37 @@ impl<'a> Teller<'a> for ByteTeller<'a> {
     }
 }
 
-// A number of bytes, or a place, with the key and flags before a pod.
-fn past(holds: Holds, n: usize) -> usize
-    requires { n ≤ 4294967295 }
-    ensures { result ≡ past_of holds n }
-{
-    match holds {
-        Holds::Fields => n,
-        Holds::Properties => n + 8,
-    }
-}
-
 impl<'a> ByteTeller<'a> {
+    ghost use Rattle.std.specs.Prelude.{◌≡◌, ◌<◌, true, false, []};
+    ghost use Rattle.std.specs.Iterator.{YieldsFirstBy};
+    ghost use Rattle.pods.specs.declared.holding.Holds.TheVariants.{Properties as PropertiesHeld};
+    ghost use Rattle.tours.specs.ByteTold.{Due};
+    ghost use Rattle.tours.specs.BytesLeft.{Opened, to_tell};
+    ghost use Rattle.tours.specs.Stack.{levels};
+    ghost use Rattle.tours.specs.Starts.{elements_left};
+    ghost use Rattle.tours.specs.Told.{thing, told_by};
+
+    // Has all to tell that the bytes of a cue tell; bytes that the survey refuses are refused.
+    fn new(bytes: &'a [u8]) -> Result<Self, Refusal>
+        ensures { Opened (told_by bytes.now) result }
+    {
+        survey(bytes)?;
+        Ok(ByteTeller {
+            bytes,
+            at: 0,
+            open: Open::new(),
+            keyed: false,
+            values: Elements::none(bytes),
+        })
+    }
+
     // Tells the key and flags of the property that is due.
     fn name(&mut self) -> Option<Told<'a>>
-        requires sound { Sound self.old.bytes.now self.old.at (levels self.old.open) self.old.keyed self.old.elements }
-        requires due { Due PropertiesHeld self.old.at (levels self.old.open) true }
+        requires due { Due PropertiesHeld self.old.at (levels self.old.«open») true }
         requires unnamed { self.old.keyed ≡ false }
         requires inside { 0 < self.old.at }
-        requires none { self.old.elements.left ≡ 0 }
-        ensures stays { Sound self.new.bytes.now self.new.at (levels self.new.open) self.new.keyed self.new.elements }
-        ensures next { Next (to_tell self.old.bytes.now self.old.at (levels self.old.open) self.old.keyed self.old.elements) result (to_tell self.new.bytes.now self.new.at (levels self.new.open) self.new.keyed self.new.elements) }
+        requires none { elements_left self.old.values ≡ [] }
+        ensures { YieldsFirstBy thing to_tell self.old result self.new }
     {
         let named = two_words(&self.bytes[self.at..])?;
         self.keyed = true;
@@ -92,11 +108,9 @@ impl<'a> ByteTeller<'a> {
 
     // Tells how the pod that is due starts, and goes on behind it, to its values or into it.
     fn take(&mut self, holds: Holds) -> Option<Told<'a>>
-        requires sound { Sound self.old.bytes.now self.old.at (levels self.old.open) self.old.keyed self.old.elements }
-        requires due { Due holds self.old.at (levels self.old.open) self.old.keyed }
-        requires none { self.old.elements.left ≡ 0 }
-        ensures stays { Sound self.new.bytes.now self.new.at (levels self.new.open) self.new.keyed self.new.elements }
-        ensures next { Next (to_tell self.old.bytes.now self.old.at (levels self.old.open) self.old.keyed self.old.elements) result (to_tell self.new.bytes.now self.new.at (levels self.new.open) self.new.keyed self.new.elements) }
+        requires due { Due holds self.old.at (levels self.old.«open») self.old.keyed }
+        requires none { elements_left self.old.values ≡ [] }
+        ensures { YieldsFirstBy thing to_tell self.old result self.new }
     {
         let place = past(holds, self.at);
         let start = start_at(self.bytes, place)?;
@@ -107,25 +121,18 @@ impl<'a> ByteTeller<'a> {
                 self.at = place + start.total;
                 Some(start.told)
             }
-            Then::Values(elements) => {
-                self.elements = elements;
+            Then::Values(values) => {
+                self.values = values;
                 self.at = place + start.total;
                 Some(start.told)
             }
-            Then::Into(Holds::Fields) => {
+            Then::Into(inside) => {
+                let opening = past(inside, 8);
                 self.open.push(Frame {
-                    holds: Holds::Fields,
-                    remaining: start.total - 8,
+                    holds: inside,
+                    remaining: start.total - opening,
                 });
-                self.at = place + 8;
-                Some(start.told)
-            }
-            Then::Into(Holds::Properties) => {
-                self.open.push(Frame {
-                    holds: Holds::Properties,
-                    remaining: start.total - 16,
-                });
-                self.at = place + 16;
+                self.at = place + opening;
                 Some(start.told)
             }
         }
@@ -137,18 +144,6 @@ pub fn tour_bytes<V: Visitor>(bytes: &[u8], visitor: &mut V) -> Result<usize, St
     ensures keeps { V.lent visitor.new ≡ V.lent visitor.old }
     ensures leads { Toured (tour V.rule (V.held visitor.old) (told_by bytes.now)) result (V.held visitor.new) }
 {
-    if let Err(refusal) = survey(bytes) {
-        return Err(Stop::Bytes(refusal));
-    }
-    let mut teller = ByteTeller {
-        bytes,
-        at: 0,
-        open: Open::new(),
-        keyed: false,
-        elements: Elements::none(),
-    };
-    match tell_all(&mut teller, visitor) {
-        Ok(count) => Ok(count),
-        Err(number) => Err(Stop::Visitor(number)),
-    }
+    let teller = ByteTeller::new(bytes)?;
+    Ok(tell_all(teller, visitor)?)
 }

@@ -1,48 +1,54 @@
 // The values of an array or choice, one after the other.
-ghost use Rattle.std.specs.Prelude.{◌≡◌, IfNone};
-ghost use Rattle.tours.specs.Lead.{Next};
-ghost use Rattle.tours.specs.Starts.{There, elements_left};
+ghost use Rattle.std.specs.Prelude.{◌*◌, ◌≤◌, length};
+ghost use Rattle.kinds.specs.Kinds.{size_of};
 
 use crate::told::Told;
 use kinds::Kind;
 
-// Those that are still to be told: so many of a kind, from a place on.
+// Those that are still to be told: so many of a kind, at the front of some bytes.
 #[derive(Clone, Copy)]
-pub struct Elements {
+pub struct Elements<'a> {
+    pub bytes: &'a [u8],
     pub kind: Kind,
-    pub at: usize,
     pub left: usize,
+    pub ghost there: { left * size_of kind ≤ length bytes.now },
 }
 
-impl Elements {
-    pub fn none() -> Self
-        ensures { (result.left ≡ 0) × (result.at ≡ 0) }
-    {
-        Elements {
-            kind: Kind::None,
-            at: 0,
-            left: 0,
-        }
-    }
+impl<'a> Iterator for Elements<'a> {
+    ghost use Rattle.std.specs.Iterator.{YieldsFirstBy, item_count};
+    ghost use Rattle.tours.specs.Starts.{elements_left};
+    ghost use Rattle.tours.specs.Told.{thing};
 
-    // Tells the next one.
-    pub fn next<'a>(&mut self, bytes: &[u8]) -> Option<Told<'a>>
-        requires { There bytes.now self.old }
-        ensures stays { There bytes.now self.new }
-        ensures next { Next (elements_left bytes.now self.old) result (elements_left bytes.now self.new) }
-        ensures all { IfNone result ((self.new ≡ self.old) × (self.old.left ≡ 0)) }
-    {
-        if self.left == 0 {
-            return None;
-        }
-        let Ok(word) = self.kind.word(&bytes[self.at..]) else {
-            return None;
-        };
-        self.at += self.kind.size();
-        self.left -= 1;
+    type Item = Told<'a>;
+
+    ghost next_gives = { YieldsFirstBy thing elements_left };
+
+    ghost remaining = { item_count elements_left };
+
+    fn next(&mut self) -> Option<Told<'a>> {
+        let left = self.left.checked_sub(1)?;
+        let word = self.kind.word(self.bytes).ok()?;
+        self.bytes = &self.bytes[self.kind.size()..];
+        self.left = left;
         Some(Told::Element {
             kind: self.kind.type_number(),
             word,
         })
+    }
+}
+
+impl<'a> Elements<'a> {
+    ghost use Rattle.std.specs.Prelude.{◌≡◌, []};
+    ghost use Rattle.tours.specs.Starts.{elements_left};
+
+    // None of `bytes`.
+    pub fn none(bytes: &'a [u8]) -> Self
+        ensures { elements_left result ≡ [] }
+    {
+        Elements {
+            bytes,
+            kind: Kind::None,
+            left: 0,
+        }
     }
 }

@@ -1,6 +1,7 @@
 // What a cue tells, to any visitor, from its bytes and from its rows.
 #![tactic(auto)]
 
+mod begun;
 mod byte_tour;
 mod elements;
 mod open;
@@ -10,7 +11,7 @@ mod seek;
 mod starts;
 mod stop;
 mod table;
-mod teller;
+mod telling;
 mod told;
 mod value_visitor;
 mod visitor;

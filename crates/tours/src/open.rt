@@ -19,3 +19,5 @@ pub struct Open {
 }
 
 mod stack;
+
+pub use stack::past;

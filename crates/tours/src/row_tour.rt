@@ -1,23 +1,24 @@
 // A tour of rows: of the bytes only texts, raw bytes and values are looked at.
-ghost use Rattle.std.specs.Prelude.{◌≡◌, ℕ, ◌<◌, [], length};
+ghost use Rattle.std.specs.Prelude.{◌≡◌, ℕ, []};
+ghost use Rattle.std.specs.Iterator.{YieldsFirstBy, item_count};
 ghost use Rattle.kinds.specs.Kinds.{kind_of};
 ghost use Rattle.pods.specs.Outcomes.{gave};
 ghost use Rattle.pods.specs.Survey.{rows_in, says};
-ghost use Rattle.pods.specs.Trees.{Tree, past as past_of};
-ghost use Rattle.tours.specs.Lead.{Next, lead};
-ghost use Rattle.tours.specs.RowsLeft.{Pending, Whole, after_pod, is_due, to_tell};
+ghost use Rattle.pods.specs.Trees.{Tree};
+ghost use Rattle.tours.specs.Lead.{lead};
+ghost use Rattle.tours.specs.RowsLeft.{Pending, after_pod, is_due, to_tell};
 ghost use Rattle.tours.specs.RowsTold.{elements_at, frame_of, holding, row_content, row_elements, rows_tell};
 ghost use Rattle.tours.specs.Stack.{levels};
-ghost use Rattle.tours.specs.Starts.{There, elements_left};
+ghost use Rattle.tours.specs.Starts.{elements_left};
 ghost use Rattle.tours.specs.Told.{pod, thing, told_by};
 ghost use Rattle.tours.specs.Tours.{Toured, ended, tour};
 
 use crate::elements::Elements;
-use crate::open::{Frame, Open};
+use crate::open::{Frame, Open, past};
 use crate::parts::part;
 use crate::starts::values_in;
 use crate::stop::Stop;
-use crate::teller::{Teller, tell_all};
+use crate::telling::tell_all;
 use crate::told::Told;
 use crate::visitor::Visitor;
 use kinds::Kind;
@@ -78,34 +79,32 @@ fn told(bytes: &[u8], row: Row) -> Told<'_>
 }
 
 // At most so many values from a place on, as many as are there.
-fn elements_at(bytes: &[u8], child: u32, count: u32, from: usize) -> Elements
-    ensures there { There bytes.now result }
-    ensures same { elements_left bytes.now result ≡ elements_at (kind_of child) count from bytes.now }
+fn elements_at(bytes: &[u8], child: u32, count: u32, from: usize) -> Elements<'_>
+    ensures { elements_left result ≡ elements_at (kind_of child) count from bytes.now }
 {
     let Some(kind) = Kind::from_type(child) else {
-        return Elements::none();
+        return Elements::none(bytes);
     };
     let there = values_in(bytes.len(), from, kind.size());
     let left = (count as usize).min(there);
     if left == 0 {
-        return Elements::none();
+        return Elements::none(bytes);
     }
     Elements {
+        bytes: &bytes[from..],
         kind,
-        at: from,
         left,
     }
 }
 
 // The values of an array or choice.
-fn elements(bytes: &[u8], row: Row) -> Elements
-    ensures there { There bytes.now result }
-    ensures same { elements_left bytes.now result ≡ row_elements bytes.now row }
+fn elements(bytes: &[u8], row: Row) -> Elements<'_>
+    ensures { elements_left result ≡ row_elements bytes.now row }
 {
     match row.kind {
         13 => elements_at(bytes, row.child, row.count, row.place as usize + 16),
         19 => elements_at(bytes, row.child, row.count, row.place as usize + 24),
-        _ => Elements::none(),
+        _ => Elements::none(bytes),
     }
 }
 
@@ -127,16 +126,6 @@ fn frame(row: Row) -> Option<Frame>
     }
 }
 
-// The bytes that a pod takes of its container.
-fn past(holds: Holds, total: u32) -> usize
-    ensures { result ≡ past_of holds total }
-{
-    match holds {
-        Holds::Fields => total as usize,
-        Holds::Properties => total as usize + 8,
-    }
-}
-
 // Whether key and flags are still to be told before a pod.
 fn due(holds: Holds, keyed: bool) -> bool
     ensures { result ≡ is_due keyed holds }
@@ -152,22 +141,22 @@ fn due(holds: Holds, keyed: bool) -> bool
 pub struct RowTeller<'a> {
     bytes: &'a [u8],
     rows: &'a [Row],
-    at: usize,
     open: Open,
     // the key and flags of the next row were told
     keyed: bool,
-    elements: Elements,
+    values: Elements<'a>,
 }
 
-impl<'a> Teller<'a> for RowTeller<'a> {
-    ghost sound = { λ s. Whole s };
+impl<'a> Iterator for RowTeller<'a> {
+    type Item = Told<'a>;
 
-    ghost tells = { λ s. to_tell s };
+    ghost next_gives = { YieldsFirstBy thing to_tell };
+
+    ghost remaining = { item_count to_tell };
 
     fn next(&mut self) -> Option<Told<'a>> {
-        if self.elements.left > 0 {
-            let bytes = self.bytes;
-            return self.elements.next(bytes);
+        if let Some(told) = self.values.next() {
+            return Some(told);
         }
         match self.open.innermost() {
             Some(Frame { holds, remaining }) => {
@@ -186,17 +175,14 @@ impl<'a> Teller<'a> for RowTeller<'a> {
 impl<'a> RowTeller<'a> {
     // Tells the key and flags of the next row, where they are due, or else its pod.
     fn next_row(&mut self, holds: Holds) -> Option<Told<'a>>
-        requires whole { Whole self.old }
-        requires none { self.old.elements.left ≡ 0 }
+        requires none { elements_left self.old.values ≡ [] }
         requires pending { Pending (levels self.old.«open») }
         requires held { holds ≡ holding (levels self.old.«open») }
-        ensures stays { Whole self.new }
-        ensures next { Next (to_tell self.old) result (to_tell self.new) }
+        ensures { YieldsFirstBy thing to_tell self.old result self.new }
     {
-        if self.at >= self.rows.len() {
+        let [row, rest @ ..] = self.rows else {
             return None;
-        }
-        let row = self.rows[self.at];
+        };
         if due(holds, self.keyed) {
             self.keyed = true;
             return Some(Told::Property {
@@ -204,21 +190,19 @@ impl<'a> RowTeller<'a> {
                 flags: row.flags,
             });
         }
-        Some(self.take(row, holds))
+        self.rows = rest;
+        Some(self.take(*row, holds))
     }
 
     // Tells a row's pod, and goes on behind it or into it.
     fn take(&mut self, row: Row, holds: Holds) -> Told<'a>
-        requires more { self.old.at < length self.old.rows.now }
-        requires held { holds ≡ holding (levels self.old.«open») }
-        ensures stays { Whole self.new }
+        requires { holds ≡ holding (levels self.old.«open») }
         ensures told { thing result ≡ pod row.place row.total (row_content self.old.bytes.now row) }
         ensures rest { to_tell self.new ≡ after_pod self.old row }
     {
-        self.at += 1;
         self.keyed = false;
-        self.elements = elements(self.bytes, row);
-        self.open.charge(past(holds, row.total));
+        self.values = elements(self.bytes, row);
+        self.open.charge(past(holds, row.total as usize));
         if let Some(frame) = frame(row) {
             self.open.push(frame);
         }
@@ -236,16 +220,12 @@ pub fn tour_rows<'a, V: Visitor>(
     ensures leads { Toured (ended (lead V.rule (V.held visitor.old) (rows_tell bytes.now [] rows.now))) result (V.held visitor.new) }
     ensures alike { (t : Tree) (used : ℕ) → says bytes.now ≡ gave t used → rows.now ≡ rows_in t → Toured (tour V.rule (V.held visitor.old) (told_by bytes.now)) result (V.held visitor.new) }
 {
-    let mut teller = RowTeller {
+    let teller = RowTeller {
         bytes,
         rows,
-        at: 0,
         open: Open::new(),
         keyed: false,
-        elements: Elements::none(),
+        values: Elements::none(bytes),
     };
-    match tell_all(&mut teller, visitor) {
-        Ok(count) => Ok(count),
-        Err(number) => Err(Stop::Visitor(number)),
-    }
+    Ok(tell_all(teller, visitor)?)
 }

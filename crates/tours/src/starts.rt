@@ -1,13 +1,13 @@
 // How a pod starts: what it tells first. What a survey has accepted is not tested again.
-ghost use Rattle.std.specs.Prelude.{◌≡◌, ℕ, ◌+◌, ◌^◌, ◌<◌, ◌≤◌, List, length};
+ghost use Rattle.std.specs.Prelude.{◌≡◌, ℕ, ◌+◌, ◌≤◌, List, length, drop};
 ghost use Rattle.kinds.specs.declared.kind.Kind.{Kind as Sort};
 ghost use Rattle.pods.specs.declared.choices.ChoiceType.{ChoiceType as Choosing};
-ghost use Rattle.pods.specs.Trees.{Forest, Tree, array as array_leaf, choice as choice_leaf, fixed as fixed_leaf, object as object_tree, pointer as pointer_leaf, raw as raw_leaf, struct, text as text_leaf, totals};
-ghost use Rattle.format.specs.Layout.{ArrayLaid, ChoiceLaid, FixedLaid, Laid, PointerLaid, RawLaid, TextLaid};
-ghost use Rattle.pods.specs.declared.holding.Holds.TheVariants.{Fields as FieldsHeld, Properties as PropertiesHeld};
-ghost use Rattle.words.specs.Words.{little};
-ghost use Rattle.tours.specs.Starts.{BeginsLeaf, BeginsTree, pointer_kind, values_in};
+ghost use Rattle.pods.specs.Trees.{Forest, Tree, array, choice, fixed, leaf, object, pointer, raw, struct, text};
+ghost use Rattle.format.specs.Layout.{Laid};
+ghost use Rattle.tours.specs.declared.starts.Then.TheVariants.{On as AndOn};
+ghost use Rattle.tours.specs.Starts.{BeginsTree, Starts, pointer_kind, values_in};
 
+use crate::begun::Begun;
 use crate::elements::Elements;
 use crate::parts::part;
 use crate::told::Told;
@@ -17,9 +17,9 @@ use words::{padded, two_words};
 
 // What comes after the first thing of a pod: the next pod, the values of this one, or the pods in it.
 #[derive(Clone, Copy)]
-pub enum Then {
+pub enum Then<'a> {
     On,
-    Values(Elements),
+    Values(Elements<'a>),
     Into(Holds),
 }
 
@@ -27,80 +27,27 @@ pub enum Then {
 pub struct Start<'a> {
     pub told: Told<'a>,
     pub total: usize,
-    pub then: Then,
+    pub then: Then<'a>,
 }
 
-// A text, without its closing zero.
-fn text(bytes: &[u8], at: usize, len: usize) -> Option<Start<'_>>
-    requires short { length bytes.now ≤ 65536 }
-    requires within { at + 8 ≤ length bytes.now }
-    ensures { (part : List ℕ) (size : ℕ) → TextLaid bytes.now (at + 8) len part size → at + 8 + size ≤ length bytes.now → BeginsLeaf bytes.now at size (text_leaf part) result }
-{
-    let rest = &bytes[at + 8..];
-    if len == 0 {
-        return None;
+impl<'a> Start<'a> {
+    // A pod of so many bytes, behind which the next one stands.
+    fn on(told: Told<'a>, total: usize) -> Self
+        ensures { result ≡ record { told = told.entry; total = total; then = AndOn } }
+    {
+        Start {
+            told,
+            total,
+            then: Then::On,
+        }
     }
-    let used = padded(rest, len)?;
-    Some(Start {
-        told: Told::Text {
-            place: at as u32,
-            total: (used + 8) as u32,
-            part: part(bytes, at + 8, len - 1),
-        },
-        total: used + 8,
-        then: Then::On,
-    })
-}
-
-fn raw(bytes: &[u8], at: usize, len: usize) -> Option<Start<'_>>
-    requires short { length bytes.now ≤ 65536 }
-    requires within { at + 8 ≤ length bytes.now }
-    ensures { (part : List ℕ) (size : ℕ) → RawLaid bytes.now (at + 8) len part size → at + 8 + size ≤ length bytes.now → BeginsLeaf bytes.now at size (raw_leaf part) result }
-{
-    let rest = &bytes[at + 8..];
-    let used = padded(rest, len)?;
-    Some(Start {
-        told: Told::Raw {
-            place: at as u32,
-            total: (used + 8) as u32,
-            part: part(bytes, at + 8, len),
-        },
-        total: used + 8,
-        then: Then::On,
-    })
-}
-
-// A kind of fixed size.
-fn fixed<'a>(bytes: &[u8], at: usize, kind: Kind) -> Option<Start<'a>>
-    requires short { length bytes.now ≤ 65536 }
-    requires within { at + 8 ≤ length bytes.now }
-    ensures { (word size : ℕ) → FixedLaid bytes.now (at + 8) kind word size → at + 8 + size ≤ length bytes.now → BeginsLeaf bytes.now at size (fixed_leaf kind word) result }
-{
-    let rest = &bytes[at + 8..];
-    let used = padded(rest, kind.size())?;
-    let Ok(word) = kind.word(rest) else {
-        return None;
-    };
-    Some(Start {
-        told: Told::Fixed {
-            place: at as u32,
-            total: (used + 8) as u32,
-            kind: kind.type_number(),
-            word,
-        },
-        total: used + 8,
-        then: Then::On,
-    })
 }
 
 // How many values of `size` bytes a length has room for after `head` bytes.
 pub fn values_in(len: usize, head: usize, size: usize) -> usize
     ensures { result ≡ values_in len head size }
 {
-    if size == 0 {
-        return 0;
-    }
-    len.saturating_sub(head) / size
+    len.saturating_sub(head).checked_div(size).unwrap_or(0)
 }
 
 // A pointer is a number of eight bytes or of four.
@@ -110,150 +57,185 @@ fn pointer_kind(len: usize) -> Kind
     if len == 16 { Kind::Long } else { Kind::Id }
 }
 
-fn array<'a>(bytes: &[u8], at: usize, len: usize) -> Option<Start<'a>>
-    requires short { length bytes.now ≤ 65536 }
-    requires within { at + 8 ≤ length bytes.now }
-    requires word { len < 2 ^ 32 }
-    ensures { (k : Sort) (words : List ℕ) (size : ℕ) → ArrayLaid bytes.now (at + 8) len k words size → at + 8 + size ≤ length bytes.now → BeginsLeaf bytes.now at size (array_leaf k words) result }
-{
-    let head = two_words(&bytes[at + 8..])?;
-    let child = Kind::from_type(head.second)?;
-    let size = child.size();
-    let count = values_in(len, 8, size);
-    let used = padded(head.rest, count * size)?;
-    Some(Start {
-        told: Told::ArrayOf {
-            place: at as u32,
-            total: (used + 16) as u32,
-            child: head.second,
-            count: count as u32,
-        },
-        total: used + 16,
-        then: Then::Values(Elements {
-            kind: child,
-            at: at + 16,
-            left: count,
-        }),
-    })
-}
-
-fn choice<'a>(bytes: &[u8], at: usize, len: usize) -> Option<Start<'a>>
-    requires short { length bytes.now ≤ 65536 }
-    requires within { at + 8 ≤ length bytes.now }
-    requires word { len < 2 ^ 32 }
-    ensures { (c : Choosing) (flags : ℕ) (k : Sort) (words : List ℕ) (size : ℕ) → ChoiceLaid bytes.now (at + 8) len c flags k words size → at + 8 + size ≤ length bytes.now → BeginsLeaf bytes.now at size (choice_leaf c flags k words) result }
-{
-    let head = two_words(&bytes[at + 8..])?;
-    let declared = two_words(head.rest)?;
-    let choice = ChoiceType::from_number(head.first)?;
-    let child = Kind::from_type(declared.second)?;
-    let count = values_in(len, 16, declared.first as usize);
-    let used = padded(declared.rest, count * child.size())?;
-    let Ok(default) = child.word(declared.rest) else {
-        return None;
-    };
-    if count < choice.needed() {
-        return None;
+impl<'a> Begun<'a> {
+    // The bytes behind the header.
+    fn body(&self) -> &'a [u8]
+        ensures { result.now ≡ drop (self.now.at + 8) self.now.bytes.now }
+    {
+        &self.bytes[self.at + 8..]
     }
-    let left = choice.used(count);
-    Some(Start {
-        told: Told::ChoiceOf {
-            place: at as u32,
-            total: (used + 24) as u32,
-            child: declared.second,
-            choice: head.first,
-            flags: choice.kept(head.second),
-            count: left as u32,
-            default,
-        },
-        total: used + 24,
-        then: Then::Values(Elements {
-            kind: child,
-            at: at + 24,
-            left,
-        }),
-    })
-}
 
-fn pointer<'a>(bytes: &[u8], at: usize, len: usize) -> Option<Start<'a>>
-    requires short { length bytes.now ≤ 65536 }
-    requires within { at + 8 ≤ length bytes.now }
-    ensures { (type word size : ℕ) → PointerLaid bytes.now (at + 8) len type word size → at + 8 + size ≤ length bytes.now → BeginsLeaf bytes.now at size (pointer_leaf type word) result }
-{
-    let head = two_words(&bytes[at + 8..])?;
-    let Ok(word) = pointer_kind(len).word(head.rest) else {
-        return None;
-    };
-    Some(Start {
-        told: Told::Pointer {
-            place: at as u32,
+    // A text, without its closing zero.
+    fn text(&self) -> Option<Start<'a>>
+        ensures { (part : List ℕ) (size : ℕ) → Starts self.now (leaf (text part) size) result }
+    {
+        let kept = self.len.checked_sub(1)?;
+        let total = padded(self.body(), self.len)? + 8;
+        let told = Told::Text {
+            place: self.at as u32,
+            total: total as u32,
+            part: part(self.bytes, self.at + 8, kept),
+        };
+        Some(Start::on(told, total))
+    }
+
+    fn raw(&self) -> Option<Start<'a>>
+        ensures { (part : List ℕ) (size : ℕ) → Starts self.now (leaf (raw part) size) result }
+    {
+        let total = padded(self.body(), self.len)? + 8;
+        let told = Told::Raw {
+            place: self.at as u32,
+            total: total as u32,
+            part: part(self.bytes, self.at + 8, self.len),
+        };
+        Some(Start::on(told, total))
+    }
+
+    // A kind of fixed size.
+    fn fixed(&self, kind: Kind) -> Option<Start<'a>>
+        ensures { (word size : ℕ) → Starts self.now (leaf (fixed kind word) size) result }
+    {
+        let rest = self.body();
+        let total = padded(rest, kind.size())? + 8;
+        let word = kind.word(rest).ok()?;
+        let told = Told::Fixed {
+            place: self.at as u32,
+            total: total as u32,
+            kind: kind.type_number(),
+            word,
+        };
+        Some(Start::on(told, total))
+    }
+
+    fn pointer(&self) -> Option<Start<'a>>
+        ensures { (type word size : ℕ) → Starts self.now (leaf (pointer type word) size) result }
+    {
+        let head = two_words(self.body())?;
+        let word = pointer_kind(self.len).word(head.rest).ok()?;
+        let told = Told::Pointer {
+            place: self.at as u32,
             total: 24,
             kind: head.first,
             word,
-        },
-        total: 24,
-        then: Then::On,
-    })
-}
-
-fn structure<'a>(bytes: &[u8], at: usize, len: usize) -> Option<Start<'a>>
-    requires short { length bytes.now ≤ 65536 }
-    requires within { at + 8 ≤ length bytes.now }
-    ensures { (f : Forest) → len ≡ totals FieldsHeld f → at + 8 + totals FieldsHeld f ≤ length bytes.now → BeginsTree bytes.now at (struct f) result }
-{
-    if len > bytes.len() - at {
-        return None;
+        };
+        Some(Start::on(told, 24))
     }
-    Some(Start {
-        told: Told::StructOpen {
-            place: at as u32,
-            total: (len + 8) as u32,
-        },
-        total: len + 8,
-        then: Then::Into(Holds::Fields),
-    })
-}
 
-fn object<'a>(bytes: &[u8], at: usize, len: usize) -> Option<Start<'a>>
-    requires short { length bytes.now ≤ 65536 }
-    requires within { at + 8 ≤ length bytes.now }
-    ensures { (type id : ℕ) (f : Forest) → little 4 (at + 8) bytes.now ≡ type → little 4 (at + 12) bytes.now ≡ id → len ≡ totals PropertiesHeld f + 8 → at + 16 + totals PropertiesHeld f ≤ length bytes.now → BeginsTree bytes.now at (object_tree type id f) result }
-{
-    let named = two_words(&bytes[at + 8..])?;
-    if len > bytes.len() - at {
-        return None;
+    fn array(&self) -> Option<Start<'a>>
+        ensures { (k : Sort) (words : List ℕ) (size : ℕ) → Starts self.now (leaf (array k words) size) result }
+    {
+        let head = two_words(self.body())?;
+        let child = Kind::from_type(head.second)?;
+        let size = child.size();
+        let count = values_in(self.len, 8, size);
+        let used = padded(head.rest, count * size)?;
+        Some(Start {
+            told: Told::ArrayOf {
+                place: self.at as u32,
+                total: (used + 16) as u32,
+                child: head.second,
+                count: count as u32,
+            },
+            total: used + 16,
+            then: Then::Values(Elements {
+                bytes: head.rest,
+                kind: child,
+                left: count,
+            }),
+        })
     }
-    Some(Start {
-        told: Told::ObjectOpen {
-            place: at as u32,
-            total: (len + 8) as u32,
-            kind: named.first,
-            id: named.second,
-        },
-        total: len + 8,
-        then: Then::Into(Holds::Properties),
-    })
+
+    fn choice(&self) -> Option<Start<'a>>
+        ensures { (c : Choosing) (flags : ℕ) (k : Sort) (words : List ℕ) (size : ℕ) → Starts self.now (leaf (choice c flags k words) size) result }
+    {
+        let head = two_words(self.body())?;
+        let declared = two_words(head.rest)?;
+        let choice = ChoiceType::from_number(head.first)?;
+        let child = Kind::from_type(declared.second)?;
+        let count = values_in(self.len, 16, declared.first as usize);
+        let used = padded(declared.rest, count * child.size())?;
+        let default = child.word(declared.rest).ok()?;
+        if count < choice.needed() {
+            return None;
+        }
+        let left = choice.used(count);
+        Some(Start {
+            told: Told::ChoiceOf {
+                place: self.at as u32,
+                total: (used + 24) as u32,
+                child: declared.second,
+                choice: head.first,
+                flags: choice.kept(head.second),
+                count: left as u32,
+                default,
+            },
+            total: used + 24,
+            then: Then::Values(Elements {
+                bytes: declared.rest,
+                kind: child,
+                left,
+            }),
+        })
+    }
+
+    fn structure(&self) -> Option<Start<'a>>
+        ensures { (f : Forest) → Starts self.now (struct f) result }
+    {
+        if self.len > self.bytes.len() - self.at {
+            return None;
+        }
+        let total = self.len + 8;
+        Some(Start {
+            told: Told::StructOpen {
+                place: self.at as u32,
+                total: total as u32,
+            },
+            total,
+            then: Then::Into(Holds::Fields),
+        })
+    }
+
+    fn object(&self) -> Option<Start<'a>>
+        ensures { (type id : ℕ) (f : Forest) → Starts self.now (object type id f) result }
+    {
+        let named = two_words(self.body())?;
+        if self.len > self.bytes.len() - self.at {
+            return None;
+        }
+        let total = self.len + 8;
+        Some(Start {
+            told: Told::ObjectOpen {
+                place: self.at as u32,
+                total: total as u32,
+                kind: named.first,
+                id: named.second,
+            },
+            total,
+            then: Then::Into(Holds::Properties),
+        })
+    }
 }
 
 // How the pod at `at` starts.
 pub fn start_at(bytes: &[u8], at: usize) -> Option<Start<'_>>
     requires short { length bytes.now ≤ 65536 }
     requires within { at ≤ length bytes.now }
-    ensures { (t : Tree) → Laid bytes.now t at → BeginsTree bytes.now at t result }
+    ensures { (t : Tree) → Laid bytes.now t at → BeginsTree at t result }
 {
     let head = two_words(&bytes[at..])?;
-    let len = head.first as usize;
+    let begun = Begun {
+        bytes,
+        at,
+        len: head.first as usize,
+    };
     match head.second {
-        8 => text(bytes, at, len),
-        9 => raw(bytes, at, len),
-        13 => array(bytes, at, len),
-        14 => structure(bytes, at, len),
-        15 => object(bytes, at, len),
-        17 => pointer(bytes, at, len),
-        19 => choice(bytes, at, len),
-        kind => {
-            let kind = Kind::from_type(kind)?;
-            fixed(bytes, at, kind)
-        }
+        8 => begun.text(),
+        9 => begun.raw(),
+        13 => begun.array(),
+        14 => begun.structure(),
+        15 => begun.object(),
+        17 => begun.pointer(),
+        19 => begun.choice(),
+        number => begun.fixed(Kind::from_type(number)?),
     }
 }

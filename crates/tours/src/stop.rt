@@ -1,4 +1,7 @@
 // Why a tour ends early.
+ghost use Rattle.std.specs.Prelude.{◌≡◌};
+ghost use Rattle.tours.specs.declared.stop.Stop.TheVariants.{Bytes, Visitor};
+
 use refusals::Refusal;
 
 // The bytes are refused, or the visitor refuses with a number of its own.
@@ -6,4 +9,20 @@ use refusals::Refusal;
 pub enum Stop {
     Bytes(Refusal),
     Visitor(u32),
+}
+
+impl From<Refusal> for Stop {
+    ghost from_gives = { λ refusal r. r ≡ Bytes refusal };
+
+    fn from(refusal: Refusal) -> Stop {
+        Stop::Bytes(refusal)
+    }
+}
+
+impl From<u32> for Stop {
+    ghost from_gives = { λ number r. r ≡ Visitor number };
+
+    fn from(number: u32) -> Stop {
+        Stop::Visitor(number)
+    }
 }

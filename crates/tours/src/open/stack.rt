@@ -1,9 +1,21 @@
 // Opening, charging and closing.
-ghost use Rattle.std.specs.Prelude.{◌≡◌, []};
+ghost use Rattle.std.specs.Prelude.{◌≡◌, ◌^◌, ◌<◌, []};
+ghost use Rattle.pods.specs.Trees.{past as past_of};
 ghost use Rattle.tours.specs.Stack.{charged, innermost as innermost_of, levels, outward, pushed, spent};
 
 use super::{Frame, Open};
 use pods::Holds;
+
+// A number of bytes, or a place, with the key and flags before a pod.
+pub fn past(holds: Holds, n: usize) -> usize
+    requires { n < 2 ^ 32 }
+    ensures { result ≡ past_of holds n }
+{
+    match holds {
+        Holds::Fields => n,
+        Holds::Properties => n + 8,
+    }
+}
 
 impl Frame {
     // Lowers what is left by `n`, and not below 0.
