@@ -1,20 +1,21 @@
 -- The starts of pods that hold no pods. Assumes nothing.
-use Rattle.std.proofs.Common.{◌≡◌, ℕ, ◌+◌, ◌<◌, ◌≤◌, ◌⊎◌, List, [], map, length, get_or, take, drop, Some, None, Ok, Option, sym, ap, subst, ◌∙◌, inl, inr, arith, length-drop}
+use Rattle.std.proofs.Common.{◌≡◌, ℕ, ◌+◌, ◌<◌, ◌≤◌, ◌⊎◌, List, [], map, length, get_or, take, drop, Some, None, Ok, Err, Option, Result, sym, ap, subst, ◌∙◌, inl, inr, arith, length-drop}
 use Rattle.std.proofs.lemmas.List.{take_all, drop_all, drop-drop}
 use Rattle.std.proofs.lemmas.Bool.{eq-eqb, ne_eqb, le-ltb}
 use Rattle.std.specs.Result.{result_ok}
+use Rattle.refusals.specs.declared.Why.{Why}
 use Rattle.words.specs.Words.{little, Halves}
 use Rattle.words.proofs.Places.{little_drop, little_front}
 use Rattle.kinds.specs.declared.kind.Kind.{Kind}
 use Rattle.kinds.specs.declared.kind.Kind.TheVariants.{Long, Id}
-use Rattle.kinds.specs.Kinds.{kind_of, size_of, type_of, word_of}
+use Rattle.kinds.specs.Kinds.{IsKindOf, kind_of, size_of, type_of, word_of}
 use Rattle.kinds.specs.Bodies.{body_read}
 use Rattle.kinds.proofs.Types.{kind_of_type}
 use Rattle.pods.specs.declared.choices.ChoiceType.{ChoiceType}
 use Rattle.pods.specs.declared.choices.ChoiceType.TheVariants.{None as NoChoice, Range, Step, Enum, Flags}
 use Rattle.pods.specs.Leaves.{values}
 use Rattle.pods.specs.Trees.{Leaf, leaf}
-use Rattle.pods.specs.Choices.{choice_number, choice_type_of, needed, used_of, flags_kept}
+use Rattle.pods.specs.Choices.{IsChoiceTypeOf, choice_number, choice_type_of, needed, used_of, flags_kept}
 use Rattle.format.proofs.Complete.{choice_of_number}
 use Rattle.format.specs.Layout.{word_at, ArrayCounted, ChoiceLaid, Values, BodyLaid, Laid}
 use Rattle.format.proofs.Values.{word_front, only_values}
@@ -56,15 +57,15 @@ head_after bytes b first second third fourth rest more h k =
     }
 
 -- a kind that was found is the one that is laid out
-pub same_kind_lem : (t : ℕ) (k child : Kind) → t ≡ type_of k → Some child ≡ kind_of t → child ≡ k
-same_kind_lem t k child e s = let f = kind_of_type k in let g : kind_of t ≡ kind_of (type_of k) = ap kind_of e in cc
+kind_found : (t : ℕ) (k : Kind) (r : Result Kind Why) → t ≡ type_of k → IsKindOf t r → result_ok r ≡ Some k
+kind_found t k (Ok c) e h = h ∙ ap kind_of e ∙ kind_of_type k
+kind_found t k (Err x) e h = h.0 ∙ ap kind_of e ∙ kind_of_type k
 
-pub some_kind : (t : ℕ) (k : Kind) → t ≡ type_of k → None ≡ kind_of t → ⊥
-some_kind t k e s =
-    let f = kind_of_type k in
-    let g : kind_of t ≡ kind_of (type_of k) = ap kind_of e in
-    let z : ◌≡◌ {A = ℕ} 0 1 = cc in
-    omega arith
+pub same_kind_lem : (t : ℕ) (k child : Kind) (r : Result Kind Why) → t ≡ type_of k → IsKindOf t r → Some child ≡ result_ok r → child ≡ k
+same_kind_lem t k child r e h is = let same : Some child ≡ Some k = is ∙ kind_found t k r e h in cc
+
+pub some_kind : (t : ℕ) (k : Kind) (r : Result Kind Why) → t ≡ type_of k → IsKindOf t r → None ≡ result_ok r → ⊥
+some_kind t k r e h is = let same : None ≡ Some k = is ∙ kind_found t k r e h in let z : ◌≡◌ {A = ℕ} 0 1 = cc in omega arith
 
 -- a word that was read is the one that is laid out
 pub word_read : (k : Kind) (b word : ℕ) (bytes body : List ℕ) → body ≡ drop b bytes → Some word ≡ result_ok (body_read k (λ w. w) body) → size_of k ≤ length body → word ≡ word_at k b bytes
@@ -126,15 +127,15 @@ choice_head bytes b len c flags k words size number declared child second count 
       count_is = e ∙ ap (values_in len 16) d.first_is ∙ rw (ne_eqb (little 4 (b + 8) bytes) 0 h.child_some) (sym h.counted);
     }
 
-pub same_choice : (n : ℕ) (c found : ChoiceType) → n ≡ choice_number c → Some found ≡ choice_type_of n → found ≡ c
-same_choice n c found e s = let f = choice_of_number c in let g : choice_type_of n ≡ choice_type_of (choice_number c) = ap choice_type_of e in cc
+choice_found : (n : ℕ) (c : ChoiceType) (r : Result ChoiceType Why) → n ≡ choice_number c → IsChoiceTypeOf n r → result_ok r ≡ Some c
+choice_found n c (Ok d) e h = h ∙ ap choice_type_of e ∙ choice_of_number c
+choice_found n c (Err x) e h = h.0 ∙ ap choice_type_of e ∙ choice_of_number c
 
-pub some_choice : (n : ℕ) (c : ChoiceType) → n ≡ choice_number c → None ≡ choice_type_of n → ⊥
-some_choice n c e s =
-    let f = choice_of_number c in
-    let g : choice_type_of n ≡ choice_type_of (choice_number c) = ap choice_type_of e in
-    let z : ◌≡◌ {A = ℕ} 0 1 = cc in
-    omega arith
+pub same_choice : (n : ℕ) (c found : ChoiceType) (r : Result ChoiceType Why) → n ≡ choice_number c → IsChoiceTypeOf n r → Some found ≡ result_ok r → found ≡ c
+same_choice n c found r e h is = let same : Some found ≡ Some c = is ∙ choice_found n c r e h in cc
+
+pub some_choice : (n : ℕ) (c : ChoiceType) (r : Result ChoiceType Why) → n ≡ choice_number c → IsChoiceTypeOf n r → None ≡ result_ok r → ⊥
+some_choice n c r e h is = let same : None ≡ Some c = is ∙ choice_found n c r e h in let z : ◌≡◌ {A = ℕ} 0 1 = cc in omega arith
 
 -- at least one value is used, and the first is the default
 pub used_some : (c : ChoiceType) (n : ℕ) → needed c ≤ n → 0 < used_of c n

@@ -1,4 +1,5 @@
 pub mod Stacks
+pub mod Types
 pub mod Beginning
 pub mod Only
 pub mod Retold

@@ -1,15 +1,19 @@
 -- A tree by the type number of its header. Assumes nothing.
-use Rattle.std.proofs.Common.{◌≡◌, ℕ, ◌+◌, List, sym, refl, arith}
+use Rattle.std.proofs.Common.{◌≡◌, ℕ, ◌+◌, List, sym, refl, ap, arith}
 use Rattle.words.specs.Words.{little}
 use Rattle.format.specs.Layout.{Laid}
 use Rattle.kinds.specs.declared.kind.Kind.{Kind}
 use Rattle.kinds.specs.declared.kind.Kind.TheVariants.{None, Bool as BoolKind, Id, Int, Long, Float, Double, Rectangle, Fraction, Fd}
-use Rattle.kinds.specs.Kinds.{type_of}
+use Rattle.kinds.specs.Kinds.{kind_of, type_of}
+use Rattle.kinds.proofs.Types.{kind_of_type}
 use Rattle.pods.specs.declared.choices.ChoiceType.{ChoiceType}
+use Rattle.pods.specs.declared.types.PodType.{PodType}
+use Rattle.pods.specs.declared.types.PodType.TheVariants.{Fixed as FixedType, Text, Raw, Array, Struct, Object, Pointer, Choice}
+use Rattle.pods.specs.Types.{type_number}
 use Rattle.pods.specs.Trees.{Tree, Forest, fixed, text, raw, array, choice, pointer, leaf, struct, object}
 
 -- a kind's type number is none of the others'
-plain : (k : Kind) → (type_of k ≡ 8 → ⊥) × (type_of k ≡ 9 → ⊥) × (type_of k ≡ 13 → ⊥) × (type_of k ≡ 14 → ⊥) × (type_of k ≡ 15 → ⊥) × (type_of k ≡ 17 → ⊥) × (type_of k ≡ 19 → ⊥)
+pub plain : (k : Kind) → (type_of k ≡ 8 → ⊥) × (type_of k ≡ 9 → ⊥) × (type_of k ≡ 13 → ⊥) × (type_of k ≡ 14 → ⊥) × (type_of k ≡ 15 → ⊥) × (type_of k ≡ 17 → ⊥) × (type_of k ≡ 19 → ⊥)
 plain None = (λ e. omega arith, λ e. omega arith, λ e. omega arith, λ e. omega arith, λ e. omega arith, λ e. omega arith, λ e. omega arith)
 plain BoolKind = (λ e. omega arith, λ e. omega arith, λ e. omega arith, λ e. omega arith, λ e. omega arith, λ e. omega arith, λ e. omega arith)
 plain Id = (λ e. omega arith, λ e. omega arith, λ e. omega arith, λ e. omega arith, λ e. omega arith, λ e. omega arith, λ e. omega arith)
@@ -21,6 +25,9 @@ plain Rectangle = (λ e. omega arith, λ e. omega arith, λ e. omega arith, λ e
 plain Fraction = (λ e. omega arith, λ e. omega arith, λ e. omega arith, λ e. omega arith, λ e. omega arith, λ e. omega arith, λ e. omega arith)
 plain Fd = (λ e. omega arith, λ e. omega arith, λ e. omega arith, λ e. omega arith, λ e. omega arith, λ e. omega arith, λ e. omega arith)
 
+pub same_type : (k l : Kind) → type_of k ≡ type_of l → k ≡ l
+same_type k l e = let a = kind_of_type k in let b = kind_of_type l in let same : kind_of (type_of k) ≡ kind_of (type_of l) = ap kind_of e in cc
+
 -- the type number of a pod
 abbrev pub type_in : Tree → ℕ
 type_in (leaf (fixed k w) size) = type_of k
@@ -31,6 +38,17 @@ type_in (leaf (choice c flags k words) size) = 19
 type_in (leaf (pointer type word) size) = 17
 type_in (struct f) = 14
 type_in (object type id f) = 15
+
+-- it is that of a type
+pub typed_by : (t : Tree) → (p : PodType) × (type_number p ≡ type_in t)
+typed_by (leaf (fixed k w) size) = (FixedType k, refl)
+typed_by (leaf (text part) size) = (Text, refl)
+typed_by (leaf (raw part) size) = (Raw, refl)
+typed_by (leaf (array k words) size) = (Array, refl)
+typed_by (leaf (choice c flags k words) size) = (Choice, refl)
+typed_by (leaf (pointer type word) size) = (Pointer, refl)
+typed_by (struct f) = (Struct, refl)
+typed_by (object type id f) = (Object, refl)
 
 -- the header of a tree that is laid out has its type number
 pub laid_type : (bytes : List ℕ) (t : Tree) (p : ℕ) → Laid bytes t p → little 4 (p + 4) bytes ≡ type_in t

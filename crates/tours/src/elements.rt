@@ -31,7 +31,7 @@ impl<'a> Iterator for Elements<'a> {
         self.bytes = &self.bytes[self.kind.size()..];
         self.left = left;
         Some(Told::Element {
-            kind: self.kind.type_number(),
+            kind: u32::from(self.kind),
             word,
         })
     }

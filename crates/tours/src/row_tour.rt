@@ -22,45 +22,59 @@ use crate::telling::tell_all;
 use crate::told::Told;
 use crate::visitor::Visitor;
 use kinds::Kind;
-use pods::{Holds, Row};
+use pods::{Holds, PodType, Row};
+use words::DoubleWord;
 
-// What a row tells of its pod.
+// What a row tells of its pod; a number that stands for no type is told as that of a fixed size.
 fn told(bytes: &[u8], row: Row) -> Told<'_>
     ensures { thing result ≡ pod row.place row.total (row_content bytes.now row) }
 {
     let place = row.place;
     let total = row.total;
-    match row.kind {
-        8 => Told::Text {
+    let fixed = Told::Fixed {
+        place,
+        total,
+        kind: row.kind,
+        word: row.word,
+    };
+    let Ok(kind) = PodType::try_from(row.kind) else {
+        return fixed;
+    };
+    match kind {
+        PodType::Fixed(_) => fixed,
+        PodType::Text => Told::Text {
             place,
             total,
             part: part(bytes, place as usize + 8, row.count as usize),
         },
-        9 => Told::Raw {
+        PodType::Raw => Told::Raw {
             place,
             total,
             part: part(bytes, place as usize + 8, row.count as usize),
         },
-        13 => Told::ArrayOf {
+        PodType::Array => Told::ArrayOf {
             place,
             total,
             child: row.child,
             count: row.count,
         },
-        14 => Told::StructOpen { place, total },
-        15 => Told::ObjectOpen {
-            place,
-            total,
-            kind: (row.word % 0x1_0000_0000) as u32,
-            id: (row.word / 0x1_0000_0000) as u32,
-        },
-        17 => Told::Pointer {
+        PodType::Struct => Told::StructOpen { place, total },
+        PodType::Object => {
+            let DoubleWord { low, high } = DoubleWord::from(row.word);
+            Told::ObjectOpen {
+                place,
+                total,
+                kind: low,
+                id: high,
+            }
+        }
+        PodType::Pointer => Told::Pointer {
             place,
             total,
             kind: row.side,
             word: row.word,
         },
-        19 => Told::ChoiceOf {
+        PodType::Choice => Told::ChoiceOf {
             place,
             total,
             child: row.child,
@@ -69,12 +83,6 @@ fn told(bytes: &[u8], row: Row) -> Told<'_>
             count: row.count,
             default: row.word,
         },
-        kind => Told::Fixed {
-            place,
-            total,
-            kind,
-            word: row.word,
-        },
     }
 }
 
@@ -82,7 +90,7 @@ fn told(bytes: &[u8], row: Row) -> Told<'_>
 fn elements_at(bytes: &[u8], child: u32, count: u32, from: usize) -> Elements<'_>
     ensures { elements_left result ≡ elements_at (kind_of child) count from bytes.now }
 {
-    let Some(kind) = Kind::from_type(child) else {
+    let Ok(kind) = Kind::try_from(child) else {
         return Elements::none(bytes);
     };
     let there = values_in(bytes.len(), from, kind.size());
@@ -101,29 +109,30 @@ fn elements_at(bytes: &[u8], child: u32, count: u32, from: usize) -> Elements<'_
 fn elements(bytes: &[u8], row: Row) -> Elements<'_>
     ensures { elements_left result ≡ row_elements bytes.now row }
 {
-    match row.kind {
-        13 => elements_at(bytes, row.child, row.count, row.place as usize + 16),
-        19 => elements_at(bytes, row.child, row.count, row.place as usize + 24),
-        _ => Elements::none(bytes),
-    }
+    let Ok(kind) = PodType::try_from(row.kind) else {
+        return Elements::none(bytes);
+    };
+    let head = match kind {
+        PodType::Array => 16,
+        PodType::Choice => 24,
+        _ => return Elements::none(bytes),
+    };
+    elements_at(bytes, row.child, row.count, row.place as usize + head)
 }
 
 // The container that a row opens.
 fn frame(row: Row) -> Option<Frame>
     ensures { result ≡ frame_of row }
 {
-    let total = row.total as usize;
-    match row.kind {
-        14 => Some(Frame {
-            holds: Holds::Fields,
-            remaining: total.saturating_sub(8),
-        }),
-        15 => Some(Frame {
-            holds: Holds::Properties,
-            remaining: total.saturating_sub(16),
-        }),
-        _ => None,
-    }
+    let holds = match PodType::try_from(row.kind).ok()? {
+        PodType::Struct => Holds::Fields,
+        PodType::Object => Holds::Properties,
+        _ => return None,
+    };
+    Some(Frame {
+        holds,
+        remaining: (row.total as usize).saturating_sub(past(holds, 8)),
+    })
 }
 
 // Whether key and flags are still to be told before a pod.

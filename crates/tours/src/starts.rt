@@ -12,7 +12,7 @@ use crate::elements::Elements;
 use crate::parts::part;
 use crate::told::Told;
 use kinds::Kind;
-use pods::{ChoiceType, Holds};
+use pods::{ChoiceType, Holds, PodType};
 use words::{padded, two_words};
 
 // What comes after the first thing of a pod: the next pod, the values of this one, or the pods in it.
@@ -101,7 +101,7 @@ impl<'a> Begun<'a> {
         let told = Told::Fixed {
             place: self.at as u32,
             total: total as u32,
-            kind: kind.type_number(),
+            kind: u32::from(kind),
             word,
         };
         Some(Start::on(told, total))
@@ -125,7 +125,7 @@ impl<'a> Begun<'a> {
         ensures { (k : Sort) (words : List ℕ) (size : ℕ) → Starts self.now (leaf (array k words) size) result }
     {
         let head = two_words(self.body())?;
-        let child = Kind::from_type(head.second)?;
+        let child = Kind::try_from(head.second).ok()?;
         let size = child.size();
         let count = values_in(self.len, 8, size);
         let used = padded(head.rest, count * size)?;
@@ -150,8 +150,8 @@ impl<'a> Begun<'a> {
     {
         let head = two_words(self.body())?;
         let declared = two_words(head.rest)?;
-        let choice = ChoiceType::from_number(head.first)?;
-        let child = Kind::from_type(declared.second)?;
+        let choice = ChoiceType::try_from(head.first).ok()?;
+        let child = Kind::try_from(declared.second).ok()?;
         let count = values_in(self.len, 16, declared.first as usize);
         let used = padded(declared.rest, count * child.size())?;
         let default = child.word(declared.rest).ok()?;
@@ -228,14 +228,14 @@ pub fn start_at(bytes: &[u8], at: usize) -> Option<Start<'_>>
         at,
         len: head.first as usize,
     };
-    match head.second {
-        8 => begun.text(),
-        9 => begun.raw(),
-        13 => begun.array(),
-        14 => begun.structure(),
-        15 => begun.object(),
-        17 => begun.pointer(),
-        19 => begun.choice(),
-        number => begun.fixed(Kind::from_type(number)?),
+    match PodType::try_from(head.second).ok()? {
+        PodType::Fixed(kind) => begun.fixed(kind),
+        PodType::Text => begun.text(),
+        PodType::Raw => begun.raw(),
+        PodType::Array => begun.array(),
+        PodType::Struct => begun.structure(),
+        PodType::Object => begun.object(),
+        PodType::Pointer => begun.pointer(),
+        PodType::Choice => begun.choice(),
     }
 }

@@ -15,8 +15,7 @@ pub fn fill(bytes: &[u8], rows: &mut [Row]) -> Result<Surveyed, Refusal>
 {
     let found = survey(bytes)?;
     if found.rows > rows.len() {
-        let start = Spot { place: 0, depth: 1 };
-        return Err(start.refuse(Why::TooManyRows));
+        return Err(Spot::OUTERMOST.refuse(Why::TooManyRows));
     }
     let mut visitor = ValueVisitor::new(rows);
     let _ = tour_bytes(bytes, &mut visitor);

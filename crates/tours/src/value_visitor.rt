@@ -1,12 +1,13 @@
 // Rows from what is told.
-ghost use Rattle.std.specs.Prelude.{◌≡◌, ◌+◌, ◌*◌, ◌^◌, [], ◌∷◌};
+ghost use Rattle.std.specs.Prelude.{◌≡◌, ◌+◌, [], ◌∷◌};
 ghost use Rattle.tours.specs.Lead.{Kept};
 ghost use Rattle.tours.specs.Table.{Table, counted, fills, holder as holder_of};
 ghost use Rattle.tours.specs.Rowed.{table_of, empty, dressed, placed, left};
 
 use crate::told::Told;
 use crate::visitor::Visitor;
-use pods::Row;
+use pods::{PodType, Row};
+use words::DoubleWord;
 
 // Fills a lent table from its start, a row for each pod; `within` is the row of the innermost open container and one more,
 // and `key` and `flags` are of the latest property.
@@ -18,21 +19,6 @@ pub struct ValueVisitor<'a> {
     key: u32,
     flags: u32,
 }
-
-const NO_ROW: Row = Row {
-    place: 0,
-    total: 0,
-    kind: 0,
-    child: 0,
-    parent: 0,
-    key: 0,
-    flags: 0,
-    locked: 0,
-    count: 0,
-    side: 0,
-    bits: 0,
-    word: 0,
-};
 
 impl Visitor for ValueVisitor<'_> {
     ghost Held = { Table };
@@ -56,21 +42,21 @@ impl Visitor for ValueVisitor<'_> {
                 kind,
                 count: 1,
                 word,
-                ..NO_ROW
+                ..Row::default()
             }),
             Told::Text { place, total, part } => self.add(Row {
                 place,
                 total,
-                kind: 8,
+                kind: u32::from(PodType::Text),
                 count: count_of(part),
-                ..NO_ROW
+                ..Row::default()
             }),
             Told::Raw { place, total, part } => self.add(Row {
                 place,
                 total,
-                kind: 9,
+                kind: u32::from(PodType::Raw),
                 count: count_of(part),
-                ..NO_ROW
+                ..Row::default()
             }),
             Told::ArrayOf {
                 place,
@@ -80,10 +66,10 @@ impl Visitor for ValueVisitor<'_> {
             } => self.add(Row {
                 place,
                 total,
-                kind: 13,
+                kind: u32::from(PodType::Array),
                 child,
                 count,
-                ..NO_ROW
+                ..Row::default()
             }),
             Told::ChoiceOf {
                 place,
@@ -96,13 +82,13 @@ impl Visitor for ValueVisitor<'_> {
             } => self.add(Row {
                 place,
                 total,
-                kind: 19,
+                kind: u32::from(PodType::Choice),
                 child,
                 count,
                 side: choice,
                 bits: flags,
                 word: default,
-                ..NO_ROW
+                ..Row::default()
             }),
             Told::Pointer {
                 place,
@@ -112,18 +98,18 @@ impl Visitor for ValueVisitor<'_> {
             } => self.add(Row {
                 place,
                 total,
-                kind: 17,
+                kind: u32::from(PodType::Pointer),
                 count: 1,
                 side: kind,
                 word,
-                ..NO_ROW
+                ..Row::default()
             }),
             Told::StructOpen { place, total } => self.enter(Row {
                 place,
                 total,
-                kind: 14,
+                kind: u32::from(PodType::Struct),
                 count: 1,
-                ..NO_ROW
+                ..Row::default()
             }),
             Told::ObjectOpen {
                 place,
@@ -133,10 +119,13 @@ impl Visitor for ValueVisitor<'_> {
             } => self.enter(Row {
                 place,
                 total,
-                kind: 15,
+                kind: u32::from(PodType::Object),
                 count: 1,
-                word: joined(kind, id),
-                ..NO_ROW
+                word: u64::from(DoubleWord {
+                    low: kind,
+                    high: id,
+                }),
+                ..Row::default()
             }),
             Told::Element { .. } => Ok(()),
             Told::Property { key, flags } => {
@@ -178,11 +167,11 @@ impl ValueVisitor<'_> {
         ensures { result ≡ holder_of (table_of self.now) }
     {
         if self.within == 0 {
-            return NO_ROW;
+            return Row::default();
         }
         match self.rows.get(self.within as usize - 1) {
             Some(row) => *row,
-            None => NO_ROW,
+            None => Row::default(),
         }
     }
 
@@ -242,11 +231,4 @@ fn count_of(part: &[u8]) -> u32
     ensures { result ≡ counted part.now }
 {
     part.len().min(u32::MAX as usize) as u32
-}
-
-// Two numbers in one word, the first in its low half.
-fn joined(low: u32, high: u32) -> u64
-    ensures { result ≡ low + high * 2 ^ 32 }
-{
-    u64::from(low) + u64::from(high) * 4_294_967_296
 }

@@ -1,13 +1,15 @@
-use Rattle.std.proofs.Common.{◌≡◌, ℕ, List, length, take, drop, ◌-◌, ◌≤◌, Option, sym, ap, ◌∙◌, subst, rules}
+use Rattle.std.proofs.Common.{◌≡◌, ℕ, List, length, take, drop, ◌-◌, ◌≤◌, Option, sym, ap, ◌∙◌, subst}
 use Rattle.std.proofs.lemmas.List.{take_rest}
 use Rattle.words.specs.Words.{Halves}
 use Rattle.kinds.specs.Kinds.{type_of}
+use Rattle.pods.specs.Types.{type_number}
 use Rattle.pods.specs.Trees.{Tree, leaf, fixed}
 use Rattle.format.specs.Layout.{Laid}
 use Rattle.tours.specs.declared.starts.Start.{Start}
 use Rattle.tours.specs.Starts.{BeginsTree}
-use Rattle.tours.proofs.Beginning.{head_in, some_kind, same_kind_lem}
-use Rattle.tours.proofs.Only.{type_in, laid_type, only_text, only_raw, only_array, only_choice, only_pointer, only_struct, only_object, only_fixed}
+use Rattle.tours.proofs.Beginning.{head_in}
+use Rattle.tours.proofs.Types.{type_found, no_type_found}
+use Rattle.tours.proofs.Only.{plain, same_type, type_in, typed_by, laid_type, only_text, only_raw, only_array, only_choice, only_pointer, only_struct, only_object, only_fixed}
 use Rattle.tours.proofs.starts.start_at.Goals as goal
 
 module _ (bytes : List ℕ) (t : Tree) (at : ℕ) (laid : Laid bytes t at) where
@@ -21,53 +23,67 @@ module _ (bytes : List ℕ) (t : Tree) (at : ℕ) (laid : Laid bytes t at) where
   shaped : (x : Tree) (r : Option Start) → t ≡ x → (Laid bytes x at → BeginsTree at x r) → BeginsTree at t r
   shaped x r e starts = subst (λ x. BeginsTree at x r) (sym e) (starts (subst (λ x. Laid bytes x at) e laid))
 
-pub returns-in-8 : goal.returns-in-8
-returns-in-8 c = λ t laid.
-    let o = only_text t (typed c.args.bytes.now t c.args.at laid _ _ _ c.requires.within c.in_ok-head.ensures ∙ c.in-8.is) in
+pub returns-in-Text : goal.returns-in-Text
+returns-in-Text c = λ t laid.
+    let is = typed c.args.bytes.now t c.args.at laid _ _ _ c.requires.within c.in_ok-head.ensures in
+    let type = type_found _ c.in_ok-kind.field-0 c.try_from.result c.try_from.ensures c.in_ok-kind.ensures.value in
+    let o = only_text t (is ∙ sym type ∙ ap type_number c.in-Text.is) in
     shaped c.args.bytes.now t c.args.at laid _ c.text.result o.2 (c.text.ensures o.0 o.1)
 
-pub returns-in-9 : goal.returns-in-9
-returns-in-9 c = λ t laid.
-    let o = only_raw t (typed c.args.bytes.now t c.args.at laid _ _ _ c.requires.within c.in_ok-head.ensures ∙ c.in-9.is) in
+pub returns-in-Raw : goal.returns-in-Raw
+returns-in-Raw c = λ t laid.
+    let is = typed c.args.bytes.now t c.args.at laid _ _ _ c.requires.within c.in_ok-head.ensures in
+    let type = type_found _ c.in_ok-kind.field-0 c.try_from.result c.try_from.ensures c.in_ok-kind.ensures.value in
+    let o = only_raw t (is ∙ sym type ∙ ap type_number c.in-Raw.is) in
     shaped c.args.bytes.now t c.args.at laid _ c.raw.result o.2 (c.raw.ensures o.0 o.1)
 
-pub returns-in-13 : goal.returns-in-13
-returns-in-13 c = λ t laid.
-    let o = only_array t (typed c.args.bytes.now t c.args.at laid _ _ _ c.requires.within c.in_ok-head.ensures ∙ c.in-13.is) in
+pub returns-in-Array : goal.returns-in-Array
+returns-in-Array c = λ t laid.
+    let is = typed c.args.bytes.now t c.args.at laid _ _ _ c.requires.within c.in_ok-head.ensures in
+    let type = type_found _ c.in_ok-kind.field-0 c.try_from.result c.try_from.ensures c.in_ok-kind.ensures.value in
+    let o = only_array t (is ∙ sym type ∙ ap type_number c.in-Array.is) in
     shaped c.args.bytes.now t c.args.at laid _ c.array.result o.3 (c.array.ensures o.0 o.1 o.2)
 
-pub returns-in-14 : goal.returns-in-14
-returns-in-14 c = λ t laid.
-    let o = only_struct t (typed c.args.bytes.now t c.args.at laid _ _ _ c.requires.within c.in_ok-head.ensures ∙ c.in-14.is) in
+pub returns-in-Struct : goal.returns-in-Struct
+returns-in-Struct c = λ t laid.
+    let is = typed c.args.bytes.now t c.args.at laid _ _ _ c.requires.within c.in_ok-head.ensures in
+    let type = type_found _ c.in_ok-kind.field-0 c.try_from.result c.try_from.ensures c.in_ok-kind.ensures.value in
+    let o = only_struct t (is ∙ sym type ∙ ap type_number c.in-Struct.is) in
     shaped c.args.bytes.now t c.args.at laid _ c.structure.result o.1 (c.structure.ensures o.0)
 
-pub returns-in-15 : goal.returns-in-15
-returns-in-15 c = λ t laid.
-    let o = only_object t (typed c.args.bytes.now t c.args.at laid _ _ _ c.requires.within c.in_ok-head.ensures ∙ c.in-15.is) in
+pub returns-in-Object : goal.returns-in-Object
+returns-in-Object c = λ t laid.
+    let is = typed c.args.bytes.now t c.args.at laid _ _ _ c.requires.within c.in_ok-head.ensures in
+    let type = type_found _ c.in_ok-kind.field-0 c.try_from.result c.try_from.ensures c.in_ok-kind.ensures.value in
+    let o = only_object t (is ∙ sym type ∙ ap type_number c.in-Object.is) in
     shaped c.args.bytes.now t c.args.at laid _ c.object.result o.3 (c.object.ensures o.0 o.1 o.2)
 
-pub returns-in-17 : goal.returns-in-17
-returns-in-17 c = λ t laid.
-    let o = only_pointer t (typed c.args.bytes.now t c.args.at laid _ _ _ c.requires.within c.in_ok-head.ensures ∙ c.in-17.is) in
+pub returns-in-Pointer : goal.returns-in-Pointer
+returns-in-Pointer c = λ t laid.
+    let is = typed c.args.bytes.now t c.args.at laid _ _ _ c.requires.within c.in_ok-head.ensures in
+    let type = type_found _ c.in_ok-kind.field-0 c.try_from.result c.try_from.ensures c.in_ok-kind.ensures.value in
+    let o = only_pointer t (is ∙ sym type ∙ ap type_number c.in-Pointer.is) in
     shaped c.args.bytes.now t c.args.at laid _ c.pointer.result o.3 (c.pointer.ensures o.0 o.1 o.2)
 
-pub returns-in-19 : goal.returns-in-19
-returns-in-19 c = λ t laid.
-    let o = only_choice t (typed c.args.bytes.now t c.args.at laid _ _ _ c.requires.within c.in_ok-head.ensures ∙ c.in-19.is) in
+pub returns-in-Choice : goal.returns-in-Choice
+returns-in-Choice c = λ t laid.
+    let is = typed c.args.bytes.now t c.args.at laid _ _ _ c.requires.within c.in_ok-head.ensures in
+    let type = type_found _ c.in_ok-kind.field-0 c.try_from.result c.try_from.ensures c.in_ok-kind.ensures.value in
+    let o = only_choice t (is ∙ sym type ∙ ap type_number c.in-Choice.is) in
     shaped c.args.bytes.now t c.args.at laid _ c.choice.result o.5 (c.choice.ensures o.0 o.1 o.2 o.3 o.4)
 
-pub returns-in_err-from_type-in_default : goal.returns-in_err-from_type-in_default
-returns-in_err-from_type-in_default c =
-    rw c.from_residual-in_err-from_type-in_default.ensures (λ t laid.
+pub returns-in_err-kind : goal.returns-in_err-kind
+returns-in_err-kind c =
+    rw c.from_residual-in_err-kind.ensures (λ t laid.
     let is = typed c.args.bytes.now t c.args.at laid _ _ _ c.requires.within c.in_ok-head.ensures in
-    let o = only_fixed t c.in_ok-head.head.second is (search rules) in
-    let type : c.in_ok-head.head.second ≡ type_of o.0 = sym is ∙ ap type_in o.3 in
-    absurd (some_kind _ o.0 type c.in_err-from_type-in_default.ensures))
+    let p = typed_by t in
+    absurd (no_type_found _ c.try_from.result c.try_from.ensures c.in_err-kind.ensures.value p.0 (p.1 ∙ is)))
 
-pub returns-in_ok-from_type-in_default : goal.returns-in_ok-from_type-in_default
-returns-in_ok-from_type-in_default c = λ t laid.
+pub returns-in-Fixed : goal.returns-in-Fixed
+returns-in-Fixed c = λ t laid.
     let is = typed c.args.bytes.now t c.args.at laid _ _ _ c.requires.within c.in_ok-head.ensures in
-    let o = only_fixed t c.in_ok-head.head.second is (search rules) in
-    let type : c.in_ok-head.head.second ≡ type_of o.0 = sym is ∙ ap type_in o.3 in
-    let same = same_kind_lem _ o.0 _ type c.in_ok-from_type-in_default.ensures in
-    shaped c.args.bytes.now t c.args.at laid _ c.fixed.result (o.3 ∙ ap (λ k. leaf (fixed k o.1) o.2) (sym same)) (c.fixed.ensures o.1 o.2)
+    let type = type_found _ c.in_ok-kind.field-0 c.try_from.result c.try_from.ensures c.in_ok-kind.ensures.value in
+    let k = c.in-Fixed.kind in
+    let o = only_fixed t (type_of k) (is ∙ sym type ∙ ap type_number c.in-Fixed.is) (plain k) in
+    let same = same_type o.0 k (sym (ap type_in o.3) ∙ is ∙ sym type ∙ ap type_number c.in-Fixed.is) in
+    shaped c.args.bytes.now t c.args.at laid _ c.fixed.result (o.3 ∙ ap (λ k. leaf (fixed k o.1) o.2) same) (c.fixed.ensures o.1 o.2)

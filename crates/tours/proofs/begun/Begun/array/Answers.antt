@@ -14,7 +14,7 @@ returns-in_err-child c =
     let h = l.1 in
     let there = l.0 in
     let a = head_in b.bytes.now _ (b.at + 8) _ _ _ c.body.ensures (omega (arith, b.there)) c.in_ok-head.ensures in
-    some_kind _ k (a.second_is ∙ h.child_type) c.in_err-child.ensures)
+    some_kind _ k _ (a.second_is ∙ h.child_type) c.try_from.ensures c.in_err-child.ensures.value)
 
 pub returns-in_err-used : goal.returns-in_err-used
 returns-in_err-used c =
@@ -24,7 +24,7 @@ returns-in_err-used c =
     let h = l.1 in
     let there = l.0 in
     let a = head_in b.bytes.now _ (b.at + 8) _ _ _ c.body.ensures (omega (arith, b.there)) c.in_ok-head.ensures in
-    let child = same_kind_lem _ k _ (a.second_is ∙ h.child_type) c.in_ok-child.ensures in
+    let child = same_kind_lem _ k _ _ (a.second_is ∙ h.child_type) c.try_from.ensures c.in_ok-child.ensures.value in
     let s : c.size-size.result ≡ size_of k = c.size-size.ensures ∙ ap size_of child in
     let n : c.values_in-count.result ≡ length words = c.values_in-count.ensures ∙ ap (values_in b.len 8) s ∙ array_count_lem (size_of k) b.len (length words) h.counted in
     let all : padded (c.values_in-count.result * c.size-size.result) ≡ padded (length words * size_of k) = ap (λ m. padded (m * c.size-size.result)) n ∙ ap (λ m. padded (length words * m)) s in
@@ -38,7 +38,7 @@ returns c = λ k words size laid.
     let there = l.0 in
     let a = head_in b.bytes.now _ (b.at + 8) _ _ _ c.body.ensures (omega (arith, b.there)) c.in_ok-head.ensures in
     let fits = c.in_ok-used.ensures in
-    let child = same_kind_lem _ k _ (a.second_is ∙ h.child_type) c.in_ok-child.ensures in
+    let child = same_kind_lem _ k _ _ (a.second_is ∙ h.child_type) c.try_from.ensures c.in_ok-child.ensures.value in
     let s : c.size-size.result ≡ size_of k = c.size-size.ensures ∙ ap size_of child in
     let n : c.values_in-count.result ≡ length words = c.values_in-count.ensures ∙ ap (values_in b.len 8) s ∙ array_count_lem (size_of k) b.len (length words) h.counted in
     let all : padded (c.values_in-count.result * c.size-size.result) ≡ padded (length words * size_of k) = ap (λ m. padded (m * c.size-size.result)) n ∙ ap (λ m. padded (length words * m)) s in

@@ -27,7 +27,7 @@ returns-in_err-choice c =
     let h = l.1 in
     let there = l.0 in
     let a = head_in b.bytes.now _ (b.at + 8) _ _ _ c.body.ensures (omega (arith, b.there)) c.in_ok-head.ensures in
-    some_choice _ c' (a.first_is ∙ h.type_is) c.in_err-choice.ensures)
+    some_choice _ c' _ (a.first_is ∙ h.type_is) c.try_from.ensures c.in_err-choice.ensures.value)
 
 pub returns-in_err-child : goal.returns-in_err-child
 returns-in_err-child c =
@@ -39,7 +39,7 @@ returns-in_err-child c =
     let a = head_in b.bytes.now _ (b.at + 8) _ _ _ c.body.ensures (omega (arith, b.there)) c.in_ok-head.ensures in
     let d = head_after b.bytes.now (b.at + 8) _ _ _ _ _ _ a c.in_ok-declared.ensures in
     let twelve : b.at + 8 + 8 + 4 ≡ b.at + 8 + 12 = omega arith in
-    some_kind _ k (d.second_is ∙ ap (λ p. little 4 p b.bytes.now) twelve ∙ h.child_type) c.in_err-child.ensures)
+    some_kind _ k _ (d.second_is ∙ ap (λ p. little 4 p b.bytes.now) twelve ∙ h.child_type) c.try_from-2.ensures c.in_err-child.ensures.value)
 
 pub returns-in_err-used : goal.returns-in_err-used
 returns-in_err-used c =
@@ -51,8 +51,8 @@ returns-in_err-used c =
     let a = head_in b.bytes.now _ (b.at + 8) _ _ _ c.body.ensures (omega (arith, b.there)) c.in_ok-head.ensures in
     let d = head_after b.bytes.now (b.at + 8) _ _ _ _ _ _ a c.in_ok-declared.ensures in
     let e = choice_head b.bytes.now (b.at + 8) b.len c' flags k words size _ _ _ _ _ _ _ h a d c.values_in-count.ensures in
-    let choice = same_choice _ c' _ e.number_is c.in_ok-choice.ensures in
-    let child = same_kind_lem _ k _ e.type_is c.in_ok-child.ensures in
+    let choice = same_choice _ c' _ _ e.number_is c.try_from.ensures c.in_ok-choice.ensures.value in
+    let child = same_kind_lem _ k _ _ e.type_is c.try_from-2.ensures c.in_ok-child.ensures.value in
     let n : c.values_in-count.result ≡ h.n = e.count_is in
     let s : c.size.result ≡ size_of k = c.size.ensures ∙ ap size_of child in
     let all : padded (c.values_in-count.result * c.size.result) ≡ padded (h.n * size_of k) = ap (λ m. padded (m * c.size.result)) n ∙ ap (λ m. padded (h.n * m)) s in
@@ -68,8 +68,8 @@ returns-in_err-default c =
     let a = head_in b.bytes.now _ (b.at + 8) _ _ _ c.body.ensures (omega (arith, b.there)) c.in_ok-head.ensures in
     let d = head_after b.bytes.now (b.at + 8) _ _ _ _ _ _ a c.in_ok-declared.ensures in
     let e = choice_head b.bytes.now (b.at + 8) b.len c' flags k words size _ _ _ _ _ _ _ h a d c.values_in-count.ensures in
-    let choice = same_choice _ c' _ e.number_is c.in_ok-choice.ensures in
-    let child = same_kind_lem _ k _ e.type_is c.in_ok-child.ensures in
+    let choice = same_choice _ c' _ _ e.number_is c.try_from.ensures c.in_ok-choice.ensures.value in
+    let child = same_kind_lem _ k _ _ e.type_is c.try_from-2.ensures c.in_ok-child.ensures.value in
     let n : c.values_in-count.result ≡ h.n = e.count_is in
     let s : c.size.result ≡ size_of k = c.size.ensures ∙ ap size_of child in
     let all : padded (c.values_in-count.result * c.size.result) ≡ padded (h.n * size_of k) = ap (λ m. padded (m * c.size.result)) n ∙ ap (λ m. padded (h.n * m)) s in
@@ -86,8 +86,8 @@ returns-then-count-needed c = λ c' flags k words size laid.
     let a = head_in b.bytes.now _ (b.at + 8) _ _ _ c.body.ensures (omega (arith, b.there)) c.in_ok-head.ensures in
     let d = head_after b.bytes.now (b.at + 8) _ _ _ _ _ _ a c.in_ok-declared.ensures in
     let e = choice_head b.bytes.now (b.at + 8) b.len c' flags k words size _ _ _ _ _ _ _ h a d c.values_in-count.ensures in
-    let choice = same_choice _ c' _ e.number_is c.in_ok-choice.ensures in
-    let child = same_kind_lem _ k _ e.type_is c.in_ok-child.ensures in
+    let choice = same_choice _ c' _ _ e.number_is c.try_from.ensures c.in_ok-choice.ensures.value in
+    let child = same_kind_lem _ k _ _ e.type_is c.try_from-2.ensures c.in_ok-child.ensures.value in
     let n : c.values_in-count.result ≡ h.n = e.count_is in
     let s : c.size.result ≡ size_of k = c.size.ensures ∙ ap size_of child in
     let all : padded (c.values_in-count.result * c.size.result) ≡ padded (h.n * size_of k) = ap (λ m. padded (m * c.size.result)) n ∙ ap (λ m. padded (h.n * m)) s in
@@ -109,8 +109,8 @@ returns c = λ c' flags k words size laid.
     let a = head_in b.bytes.now _ (b.at + 8) _ _ _ c.body.ensures (omega (arith, b.there)) c.in_ok-head.ensures in
     let d = head_after b.bytes.now (b.at + 8) _ _ _ _ _ _ a c.in_ok-declared.ensures in
     let e = choice_head b.bytes.now (b.at + 8) b.len c' flags k words size _ _ _ _ _ _ _ h a d c.values_in-count.ensures in
-    let choice = same_choice _ c' _ e.number_is c.in_ok-choice.ensures in
-    let child = same_kind_lem _ k _ e.type_is c.in_ok-child.ensures in
+    let choice = same_choice _ c' _ _ e.number_is c.try_from.ensures c.in_ok-choice.ensures.value in
+    let child = same_kind_lem _ k _ _ e.type_is c.try_from-2.ensures c.in_ok-child.ensures.value in
     let n : c.values_in-count.result ≡ h.n = e.count_is in
     let s : c.size.result ≡ size_of k = c.size.ensures ∙ ap size_of child in
     let all : padded (c.values_in-count.result * c.size.result) ≡ padded (h.n * size_of k) = ap (λ m. padded (m * c.size.result)) n ∙ ap (λ m. padded (h.n * m)) s in

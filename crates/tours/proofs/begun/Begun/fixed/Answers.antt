@@ -16,8 +16,8 @@ returns c = λ word size h.
     let read = c.in_ok-word.ensures.value ∙ ap result_ok c.word.ensures in
     let same = word_read c.args.kind (s.at + 8) c.in_ok-word.word s.bytes.now _ c.body-rest.ensures read (omega (arith, fits.0, fits.1, c.size.ensures)) in
     rw c.on.ensures record {
-      told_is = ap (λ n. pod s.at (n + 8) (value c.type_number.result c.in_ok-word.word)) used
-          ∙ ap (λ n. pod s.at (size + 8) (value n c.in_ok-word.word)) c.type_number.ensures
+      told_is = ap (λ n. pod s.at (n + 8) (value c.from.result c.in_ok-word.word)) used
+          ∙ ap (λ n. pod s.at (size + 8) (value n c.in_ok-word.word)) c.from.ensures
           ∙ ap (λ w. pod s.at (size + 8) (value (type_of c.args.kind) w)) (same ∙ sym l.1.word_is);
       total_is = ap (λ n. n + 8) used;
       then_is = refl;

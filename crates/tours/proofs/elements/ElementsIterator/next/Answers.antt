@@ -13,7 +13,7 @@ returns-clause-steps c =
     let read : Ok c.in_ok-word.word ≡ body_read s.kind (λ w. w) s.bytes.now = search rules in
     let some : 0 < s.left = search rules in
     let left : c.in_ok-left.left ≡ s.left - 1 = search rules in
-    element_next s.bytes.now s.kind s.left some s.there _ _ c.in_ok-word.word _ _ c.size.ensures c.type_number.ensures read left (take_rest s.bytes.now c.size.result)
+    element_next s.bytes.now s.kind s.left some s.there _ _ c.in_ok-word.word _ _ c.size.ensures c.from.ensures read left (take_rest s.bytes.now c.size.result)
 
 pub returns-clause-goes : goal.returns-clause-goes
 returns-clause-goes c = progress thing elements_left _ _ _ (returns-clause-steps c)
