@@ -1,5 +1,5 @@
 -- A tour of bytes from its beginning. Assumes nothing.
-use Rattle.std.proofs.Common.{◌≡◌, ℕ, ◌*◌, ◌≤◌, false, List, [], length, Ok, Result, sym, refl, ap, ◌∙◌, subst, arith}
+use Rattle.std.proofs.Common.{◌≡◌, ℕ, ◌≤◌, Bool, true, false, ltb, cond, List, [], length, Ok, Err, Result, sym, refl, ap, ◌∙◌, subst, arith}
 use Rattle.pods.specs.Trees.{Tree, deep}
 use Rattle.pods.specs.Outcomes.{Outcome, gave, refused, mapped}
 use Rattle.pods.specs.Pods.{pod}
@@ -14,7 +14,12 @@ use Rattle.tours.specs.declared.byte_tour.ByteTeller.{ByteTeller}
 use Rattle.tours.specs.BytesLeft.{Opened, to_tell}
 use Rattle.tours.specs.Starts.{elements_left}
 use Rattle.tours.specs.Lead.{Rule, lead}
-use Rattle.std.proofs.lemmas.Bool.{le-ltb}
+use Rattle.std.proofs.lemmas.Bool.{le-ltb, ltb-false}
+use Rattle.pods.specs.declared.reading.Surveyed.{Surveyed}
+use Rattle.pods.specs.Rows.{top}
+use Rattle.pods.proofs.Sizes.{Sized, pod_sized}
+use Rattle.pods.proofs.Counted.{rows_count}
+use Rattle.tours.specs.Checks.{checked_by}
 use Rattle.pods.specs.declared.rows.Row.{Row}
 use Rattle.tours.specs.declared.stop.Stop.{Stop}
 use Rattle.tours.specs.Tours.{Toured, tour, ended}
@@ -59,21 +64,33 @@ pub tour_opened : {H : Type 0} (rule : Rule H) (h : H) (o : Outcome (List Thing)
 tour_opened rule h (gave ts used) s e = ap (λ ts. ended (lead rule h ts)) (sym e)
 tour_opened rule h (refused x) s e = absurd e
 
-survey_rows : (bytes : List ℕ) (rows used : ℕ) (e : gave rows used ≡ survey_of bytes) (a : Accepted bytes used) → rows ≡ length (rows_in a.tree)
-survey_rows bytes rows used e a =
-    let f : gave rows used ≡ gave (length (rows_in a.tree)) used = e ∙ ap (mapped (λ t. length (rows_in t))) a.says_it in
-    cc
-
 -- a table that has room is filled by a tour of the bytes
-pub fills_table : (bytes : List ℕ) (rows used : ℕ) (table table' : List Row) (r : Result ℕ Stop) (held : Table) → gave rows used ≡ survey_of bytes → rows ≤ length table → 8 * rows ≤ used → used ≤ length bytes
-    → Toured (tour fills (closed table 0) (told_by bytes)) r held → table' ≡ held.rows
-    → (Ok (record { rows = rows; used = used }) ≡ (filled_by (says bytes) table).0) × (table' ≡ (filled_by (says bytes) table).1)
-fills_table bytes rows used table table' r held e fits few within toured is =
-    let a = accepted bytes rows used e in
-    let same : rows ≡ length (rows_in a.tree) = survey_rows bytes rows used e a in
-    let plain = given_at (λ t _. Plain t) (says bytes) a.tree used (said_plain bytes) a.says_it in
-    let law = rows_filled a.tree plain table (omega (arith, a.short)) in
-    let told = subst (λ o. Toured (tour fills (closed table 0) o) r held) (told_by_lem bytes used a) toured in
-    let all = subst (λ l. Toured (ended l) r held) law told in
-    rw (a.says_it, le-ltb (length table) (length (rows_in a.tree)) (omega arith))
-    (ap (λ n. Ok (record { rows = n; used = used })) same, is ∙ ap (λ t. t.rows) all.1)
+module _ (bytes : List ℕ) (table : List Row) where
+  fits : {A E : Type 0} (n : ℕ) (err : E) (x found : A) → Ok found ≡ cond (ltb (length table) n) (Err err) (Ok x) → (n ≤ length table) × (found ≡ x)
+  fits {A} {E} n err x found e = by (ltb (length table) n) refl e
+    where
+      by : (b : Bool) → ltb (length table) n ≡ b → Ok found ≡ cond b (Err err) (Ok x) → (n ≤ length table) × (found ≡ x)
+      by true is e = let z : ◌≡◌ {A = ℕ} 0 1 = cc in absurd (omega arith)
+      by false is e = (ltb-false (length table) n is, cc)
+
+  few_rows : (t : Tree) (used : ℕ) → says bytes ≡ gave t used → length (rows_in t) ≤ 65536
+  few_rows t used is =
+      let short = accepted_short bytes (length (rows_in t)) used (ap (mapped (λ t. length (rows_in t))) is) in
+      let s = given_at (Sized (length bytes)) (pod 32 1 0 bytes) t used (pod_sized 32 1 0 bytes) (sym (says_pod bytes short) ∙ is) in
+      omega (arith, s.0, s.1, rows_count t top)
+
+  pub fills_table : (table' : List Row) (found : Surveyed) (r : Result ℕ Stop) (held : Table) → Ok found ≡ checked_by (says bytes) (length table)
+      → Toured (tour fills (closed table 0) (told_by bytes)) r held → table' ≡ held.rows
+      → (Ok found ≡ (filled_by (says bytes) table).0) × (table' ≡ (filled_by (says bytes) table).1)
+  fills_table table' found r held c toured same = by (says bytes) refl c
+    where
+      by : (o : Outcome Tree) → says bytes ≡ o → Ok found ≡ checked_by o (length table) → (Ok found ≡ (filled_by o table).0) × (table' ≡ (filled_by o table).1)
+      by (refused e) is c = let z : ◌≡◌ {A = ℕ} 0 1 = cc in absurd (omega arith)
+      by (gave t used) is c =
+          let f = fits (length (rows_in t)) _ _ found c in
+          let plain = given_at (λ t _. Plain t) (says bytes) t used (said_plain bytes) is in
+          let law = rows_filled t plain table (omega (arith, f.0, few_rows t used is)) in
+          let told = subst (λ o. Toured (tour fills (closed table 0) o) r held) (ap (mapped (λ t. tells t 0)) is) toured in
+          let all = subst (λ l. Toured (ended l) r held) law told in
+          rw (le-ltb (length table) (length (rows_in t)) f.0)
+          (ap Ok f.1, same ∙ ap (λ t. t.rows) all.1)

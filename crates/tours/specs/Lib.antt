@@ -7,6 +7,7 @@ pub mod Table
 pub mod Seeks
 pub mod Starts
 pub mod Alike
+pub mod Checks
 pub mod Filled
 pub mod ByteTold
 pub mod BytesLeft

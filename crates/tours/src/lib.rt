@@ -20,7 +20,7 @@ pub use byte_tour::tour_bytes;
 pub use row_tour::tour_rows;
 pub use seek::{Search, Seek};
 pub use stop::Stop;
-pub use table::fill;
+pub use table::{check, fill};
 pub use told::Told;
 pub use value_visitor::ValueVisitor;
 pub use visitor::Visitor;

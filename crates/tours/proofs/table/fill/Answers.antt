@@ -1,4 +1,4 @@
-use Rattle.std.proofs.Common.{subst, arith, rules}
+use Rattle.std.proofs.Common.{subst, rules}
 use Rattle.tours.specs.Rowed.{table_of}
 use Rattle.tours.specs.Table.{Table, fills}
 use Rattle.tours.specs.Told.{told_by}
@@ -8,7 +8,6 @@ use Rattle.tours.proofs.table.fill.Goals as goal
 
 pub returns : goal.returns
 returns c =
-    let w = c.in_ok-found.ensures.within in
     let toured = subst (λ (s : Table). Toured (tour fills s (told_by c.args.bytes.now)) c.tour_bytes.result (table_of c.tour_bytes.new.visitor)) c.new-visitor.ensures.holds c.tour_bytes.ensures.leads in
-    let f = fills_table c.args.bytes.now _ _ c.args.rows.now _ c.tour_bytes.result (table_of c.tour_bytes.new.visitor) c.in_ok-found.ensures.answer (omega (arith, c.if-found-rows.false)) w.1 w.0 toured (search rules) in
+    let f = fills_table c.args.bytes.now c.args.rows.now _ c.in_ok-found.found c.tour_bytes.result (table_of c.tour_bytes.new.visitor) c.in_ok-found.ensures toured (search rules) in
     record { answer = f.0; table = f.1 }
