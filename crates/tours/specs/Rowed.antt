@@ -1,6 +1,8 @@
 -- The parts of what a `ValueVisitor` makes of told things. Assumes nothing.
 use Rattle.std.specs.Prelude.{ℕ, ◌+◌, ◌%◌, max, cond, List, ◌==◌, nat_lt, slice_set}
 use Rattle.pods.specs.declared.rows.Row.{Row}
+use Rattle.tours.specs.declared.value_visitor.Unkept.{Unkept}
+use Rattle.tours.specs.declared.value_visitor.Unkept.TheVariants.{TableFull, NothingOpen}
 use Rattle.tours.specs.declared.value_visitor.ValueVisitor.{ValueVisitor}
 use Rattle.tours.specs.Lead.{Answer, holds, refuses}
 use Rattle.tours.specs.Table.{Table, holder, room}
@@ -8,6 +10,11 @@ use Rattle.tours.specs.Table.{Table, holder, room}
 -- what it holds, the rows by the table that is lent to it
 abbrev pub table_of : ValueVisitor → Table
 table_of v = record { rows = v.rows.now; len = v.len; within = v.within; key = v.key; flags = v.flags }
+
+-- the number with which it refuses
+abbrev pub unkept : Unkept → ℕ
+unkept TableFull = 1
+unkept NothingOpen = 2
 
 -- a table of which no row stands yet
 abbrev pub empty : List Row → Table

@@ -2,7 +2,7 @@
 ghost use Rattle.std.specs.Prelude.{◌≡◌, ◌+◌, [], ◌∷◌};
 ghost use Rattle.tours.specs.Lead.{Kept};
 ghost use Rattle.tours.specs.Table.{Table, counted, fills, holder as holder_of};
-ghost use Rattle.tours.specs.Rowed.{table_of, empty, dressed, placed, left};
+ghost use Rattle.tours.specs.Rowed.{table_of, empty, dressed, placed, left, unkept};
 
 use crate::told::Told;
 use crate::visitor::Visitor;
@@ -11,6 +11,7 @@ use words::DoubleWord;
 
 // Fills a lent table from its start, a row for each pod; `within` is the row of the innermost open container and one more,
 // and `key` and `flags` are of the latest property.
+// Kept: the library has no heap, and rows that stand are found by their number, so a lent table has a length beside it.
 #[derive(Drop)]
 pub struct ValueVisitor<'a> {
     rows: &'a mut [Row],
@@ -18,6 +19,26 @@ pub struct ValueVisitor<'a> {
     within: u32,
     key: u32,
     flags: u32,
+}
+
+// Why a table of rows keeps no more.
+#[derive(Clone, Copy, Debug, PartialEq, Eq)]
+enum Unkept {
+    TableFull,
+    // an end, where no container is open
+    NothingOpen,
+}
+
+// The number with which a visitor refuses.
+impl From<Unkept> for u32 {
+    ghost from_gives = { λ why r. r ≡ unkept why };
+
+    fn from(why: Unkept) -> u32 {
+        match why {
+            Unkept::TableFull => 1,
+            Unkept::NothingOpen => 2,
+        }
+    }
 }
 
 impl Visitor for ValueVisitor<'_> {
@@ -166,13 +187,10 @@ impl ValueVisitor<'_> {
     fn holder(&self) -> Row
         ensures { result ≡ holder_of (table_of self.now) }
     {
-        if self.within == 0 {
+        let Some(at) = (self.within as usize).checked_sub(1) else {
             return Row::default();
-        }
-        match self.rows.get(self.within as usize - 1) {
-            Some(row) => *row,
-            None => Row::default(),
-        }
+        };
+        self.rows.get(at).copied().unwrap_or_default()
     }
 
     // A pod's row with what comes from its property and from what holds it.
@@ -194,7 +212,7 @@ impl ValueVisitor<'_> {
         ensures does { Kept (placed (table_of self.old) row self.old.within) result (table_of self.old) (table_of self.new) }
     {
         if self.len >= self.rows.len().min(u32::MAX as usize) {
-            return Err(1);
+            return Err(Unkept::TableFull.into());
         }
         self.rows[self.len] = self.dress(row);
         self.len += 1;
@@ -219,7 +237,7 @@ impl ValueVisitor<'_> {
         ensures does { Kept (left (table_of self.old)) result (table_of self.old) (table_of self.new) }
     {
         if self.within == 0 {
-            return Err(2);
+            return Err(Unkept::NothingOpen.into());
         }
         self.within = self.holder().parent;
         Ok(())
