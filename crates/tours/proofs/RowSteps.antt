@@ -8,7 +8,6 @@ use Rattle.pods.specs.declared.rows.Row.{Row}
 use Rattle.tours.specs.declared.open.Frame.{Frame}
 use Rattle.tours.specs.declared.row_tour.RowTeller.{RowTeller}
 use Rattle.tours.specs.Told.{Thing, pod, property, named}
-use Rattle.tours.specs.Stack.{levels}
 use Rattle.tours.specs.Starts.{elements_left}
 use Rattle.tours.specs.RowsTold.{row_content, row_elements, ends, unended, holding, behind, rows_tell}
 use Rattle.tours.specs.RowsLeft.{is_due, unnamed, rows_left, Pending, to_tell}
@@ -43,14 +42,14 @@ first_of d [] h = absurd (omega arith)
 first_of d (r ∷ rs) h = ap (λ xs. r ∷ xs) (sym (take_rest (r ∷ rs) 1))
 
 -- no value is left, and no container ends
-module _ (s : RowTeller) (none : elements_left s.values ≡ []) (pending : Pending (levels s.open)) where
+module _ (s : RowTeller) (none : elements_left s.values ≡ []) (pending : Pending s.open) where
   pub next_none : length s.rows.now < 1 → to_tell s ≡ []
-  next_none h = let e = nil_from_length s.rows.now (omega arith) in rw (none, e) (pending_ends (levels s.open) pending)
+  next_none h = let e = nil_from_length s.rows.now (omega arith) in rw (none, e) (pending_ends s.open pending)
 
-  module _ (r : Row) (rs : List Row) (is : s.rows.now ≡ r ∷ rs) (h : Holds) (held : h ≡ holding (levels s.open)) where
-    first_row : (keyed : Bool) → rows_left s.bytes.now keyed (levels s.open) s.rows.now
-        ≡ (unnamed keyed h r ++ (pod r.place r.total (row_content s.bytes.now r) ∷ row_elements s.bytes.now r)) ++ rows_tell s.bytes.now (behind r (levels s.open)) rs
-    first_row keyed = rw (is, pending_ends (levels s.open) pending, pending_all (levels s.open) pending, held)
+  module _ (r : Row) (rs : List Row) (is : s.rows.now ≡ r ∷ rs) (h : Holds) (held : h ≡ holding s.open) where
+    first_row : (keyed : Bool) → rows_left s.bytes.now keyed s.open s.rows.now
+        ≡ (unnamed keyed h r ++ (pod r.place r.total (row_content s.bytes.now r) ∷ row_elements s.bytes.now r)) ++ rows_tell s.bytes.now (behind r s.open) rs
+    first_row keyed = rw (is, pending_ends s.open pending, pending_all s.open pending, held)
 
     -- its key and flags
     pub next_key : true ≡ is_due s.keyed h
@@ -59,5 +58,5 @@ module _ (s : RowTeller) (none : elements_left s.values ≡ []) (pending : Pendi
 
     -- its pod, and then its values and the rows after it
     pub next_pod : false ≡ is_due s.keyed h
-        → to_tell s ≡ pod r.place r.total (row_content s.bytes.now r) ∷ (row_elements s.bytes.now r ++ rows_left s.bytes.now false (behind r (levels s.open)) rs)
-    next_pod due = rw (none, first_row s.keyed, rows_left_lem s.bytes.now (behind r (levels s.open)) rs, ← due)
+        → to_tell s ≡ pod r.place r.total (row_content s.bytes.now r) ∷ (row_elements s.bytes.now r ++ rows_left s.bytes.now false (behind r s.open) rs)
+    next_pod due = rw (none, first_row s.keyed, rows_left_lem s.bytes.now (behind r s.open) rs, ← due)

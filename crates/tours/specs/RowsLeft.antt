@@ -6,7 +6,6 @@ use Rattle.pods.specs.declared.rows.Row.{Row}
 use Rattle.tours.specs.declared.open.Frame.{Frame}
 use Rattle.tours.specs.declared.row_tour.RowTeller.{RowTeller}
 use Rattle.tours.specs.Told.{Thing, pod, property}
-use Rattle.tours.specs.Stack.{levels}
 use Rattle.tours.specs.RowsTold.{row_content, row_elements, ends, unended, holding, behind, rows_tell}
 use Rattle.tours.specs.Starts.{elements_left}
 
@@ -31,8 +30,8 @@ Pending (f ∷ outer) = f.remaining ≡ 0 → ⊥
 
 -- the values of the row before, and then the rows
 abbrev pub to_tell : RowTeller → List Thing
-to_tell s = elements_left s.values ++ rows_left s.bytes.now s.keyed (levels s.open) s.rows.now
+to_tell s = elements_left s.values ++ rows_left s.bytes.now s.keyed s.open s.rows.now
 
 -- what is told behind the pod of a row, where the rows after it are left
 abbrev pub after_pod : RowTeller → Row → List Thing
-after_pod s r = row_elements s.bytes.now r ++ rows_left s.bytes.now false (behind r (levels s.open)) s.rows.now
+after_pod s r = row_elements s.bytes.now r ++ rows_left s.bytes.now false (behind r s.open) s.rows.now

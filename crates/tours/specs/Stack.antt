@@ -2,7 +2,6 @@
 use Rattle.std.specs.Prelude.{ℕ, zero, suc, ◌-◌, cond, List, [], ◌∷◌, length, Some, None, Option, nat_lt, slice_index_or}
 use Rattle.pods.specs.declared.holding.Holds.TheVariants.{Fields}
 use Rattle.tours.specs.declared.open.Frame.{Frame}
-use Rattle.tours.specs.declared.open.Open.{Open}
 
 abbrev pub blank : Frame
 blank = record { holds = Fields; remaining = 0 }
@@ -11,9 +10,6 @@ blank = record { holds = Fields; remaining = 0 }
 abbrev pub stack : List Frame → ℕ → List Frame
 stack fs zero = []
 stack fs (suc n) = slice_index_or fs n blank ∷ stack fs n
-
-abbrev pub levels : Open → List Frame
-levels o = stack o.frames o.len
 
 abbrev pub innermost : List Frame → Option Frame
 innermost [] = None

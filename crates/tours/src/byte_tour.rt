@@ -1,7 +1,6 @@
 // Tells what a cue tells, from its bytes.
 ghost use Rattle.std.specs.Prelude.{◌≡◌, ◌≤◌, length};
 ghost use Rattle.tours.specs.ByteTold.{Standing};
-ghost use Rattle.tours.specs.Stack.{levels};
 ghost use Rattle.tours.specs.Told.{told_by};
 ghost use Rattle.tours.specs.Tours.{Toured, tour};
 
@@ -25,7 +24,7 @@ pub struct ByteTeller<'a> {
     keyed: bool,
     values: Elements<'a>,
     ghost short: { length bytes.now ≤ 65536 },
-    ghost stands: { ∥ Standing bytes.now at (levels «open») keyed ∥₁ },
+    ghost stands: { ∥ Standing bytes.now at «open» keyed ∥₁ },
 }
 
 impl<'a> Iterator for ByteTeller<'a> {
@@ -72,7 +71,6 @@ impl<'a> ByteTeller<'a> {
     ghost use Rattle.pods.specs.declared.holding.Holds.TheVariants.{Properties as PropertiesHeld};
     ghost use Rattle.tours.specs.ByteTold.{Due};
     ghost use Rattle.tours.specs.BytesLeft.{Opened, to_tell};
-    ghost use Rattle.tours.specs.Stack.{levels};
     ghost use Rattle.tours.specs.Starts.{elements_left};
     ghost use Rattle.tours.specs.Told.{thing, told_by};
 
@@ -92,7 +90,7 @@ impl<'a> ByteTeller<'a> {
 
     // Tells the key and flags of the property that is due.
     fn name(&mut self) -> Option<Told<'a>>
-        requires due { Due PropertiesHeld self.old.at (levels self.old.«open») true }
+        requires due { Due PropertiesHeld self.old.at self.old.«open» true }
         requires unnamed { self.old.keyed ≡ false }
         requires inside { 0 < self.old.at }
         requires none { elements_left self.old.values ≡ [] }
@@ -108,7 +106,7 @@ impl<'a> ByteTeller<'a> {
 
     // Tells how the pod that is due starts, and goes on behind it, to its values or into it.
     fn take(&mut self, holds: Holds) -> Option<Told<'a>>
-        requires due { Due holds self.old.at (levels self.old.«open») self.old.keyed }
+        requires due { Due holds self.old.at self.old.«open» self.old.keyed }
         requires none { elements_left self.old.values ≡ [] }
         ensures { YieldsFirstBy thing to_tell self.old result self.new }
     {

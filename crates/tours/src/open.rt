@@ -1,7 +1,6 @@
 // The containers that a tour is in.
-ghost use Rattle.std.specs.Prelude.{◌≤◌};
-
 use pods::Holds;
+use std::marker::Model;
 
 // An open container: what it holds, and how many of its bytes are still to come.
 #[derive(Clone, Copy)]
@@ -10,12 +9,25 @@ pub struct Frame {
     pub remaining: usize,
 }
 
-// At most 32 of them, the innermost last.
+// At most 32 of them, seen as a list with the innermost first.
+// Kept: the library has no heap, so that the frames are an array with a length beside it.
 #[derive(Drop)]
 pub struct Open {
     frames: [Frame; 32],
     len: usize,
-    ghost few: { len ≤ 32 },
+}
+
+impl Model for Open {
+    ghost use Rattle.std.specs.Prelude.{List, ◌≤◌};
+    ghost use Rattle.tours.specs.declared.open.Frame.{Frame};
+
+    ghost Value = { List Frame };
+
+    ghost use Rattle.tours.specs.Stack.{stack};
+
+    ghost view = { λ o. stack o.frames o.len };
+
+    ghost invariant = { λ o. o.len ≤ 32 };
 }
 
 mod stack;

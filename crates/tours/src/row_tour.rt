@@ -8,7 +8,6 @@ ghost use Rattle.pods.specs.Trees.{Tree};
 ghost use Rattle.tours.specs.Lead.{lead};
 ghost use Rattle.tours.specs.RowsLeft.{Pending, after_pod, is_due, to_tell};
 ghost use Rattle.tours.specs.RowsTold.{elements_at, frame_of, holding, row_content, row_elements, rows_tell};
-ghost use Rattle.tours.specs.Stack.{levels};
 ghost use Rattle.tours.specs.Starts.{elements_left};
 ghost use Rattle.tours.specs.Told.{pod, thing, told_by};
 ghost use Rattle.tours.specs.Tours.{Toured, ended, tour};
@@ -185,8 +184,8 @@ impl<'a> RowTeller<'a> {
     // Tells the key and flags of the next row, where they are due, or else its pod.
     fn next_row(&mut self, holds: Holds) -> Option<Told<'a>>
         requires none { elements_left self.old.values ≡ [] }
-        requires pending { Pending (levels self.old.«open») }
-        requires held { holds ≡ holding (levels self.old.«open») }
+        requires pending { Pending self.old.«open» }
+        requires held { holds ≡ holding self.old.«open» }
         ensures { YieldsFirstBy thing to_tell self.old result self.new }
     {
         let [row, rest @ ..] = self.rows else {
@@ -205,7 +204,7 @@ impl<'a> RowTeller<'a> {
 
     // Tells a row's pod, and goes on behind it or into it.
     fn take(&mut self, row: Row, holds: Holds) -> Told<'a>
-        requires { holds ≡ holding (levels self.old.«open») }
+        requires { holds ≡ holding self.old.«open» }
         ensures told { thing result ≡ pod row.place row.total (row_content self.old.bytes.now row) }
         ensures rest { to_tell self.new ≡ after_pod self.old row }
     {

@@ -1,7 +1,7 @@
 // Opening, charging and closing.
 ghost use Rattle.std.specs.Prelude.{◌≡◌, ◌^◌, ◌<◌, []};
 ghost use Rattle.pods.specs.Trees.{past as past_of};
-ghost use Rattle.tours.specs.Stack.{charged, innermost as innermost_of, levels, outward, pushed, spent};
+ghost use Rattle.tours.specs.Stack.{charged, innermost as innermost_of, outward, pushed, spent};
 
 use super::{Frame, Open};
 use pods::Holds;
@@ -28,7 +28,7 @@ impl Frame {
 
 impl Open {
     pub fn new() -> Self
-        ensures { levels result ≡ [] }
+        ensures { result ≡ [] }
     {
         Open {
             frames: [Frame {
@@ -41,17 +41,15 @@ impl Open {
 
     // A copy of the innermost container.
     pub fn innermost(&self) -> Option<Frame>
-        ensures { result ≡ innermost_of (levels self.now) }
+        ensures { result ≡ innermost_of self.now }
     {
-        if self.len == 0 {
-            return None;
-        }
-        Some(self.frames[self.len - 1])
+        let last = self.len.checked_sub(1)?;
+        Some(self.frames[last])
     }
 
     // The innermost container, if there is one, is lent, and lowered in place.
     pub fn charge(&mut self, n: usize)
-        ensures { levels self.new ≡ charged n (levels self.old) }
+        ensures { self.new ≡ charged n self.old }
     {
         if self.len > 0 {
             let last = self.len - 1;
@@ -62,7 +60,7 @@ impl Open {
 
     // Opens a container, unless 32 are open.
     pub fn push(&mut self, frame: Frame)
-        ensures { levels self.new ≡ pushed frame (levels self.old) }
+        ensures { self.new ≡ pushed frame self.old }
     {
         if self.len < 32 {
             self.frames[self.len] = frame;
@@ -72,10 +70,8 @@ impl Open {
 
     // Closes the innermost container.
     pub fn pop(&mut self)
-        ensures { levels self.new ≡ outward (levels self.old) }
+        ensures { self.new ≡ outward self.old }
     {
-        if self.len > 0 {
-            self.len -= 1;
-        }
+        self.len = self.len.saturating_sub(1);
     }
 }
