@@ -1,6 +1,6 @@
 -- The starts of pods that hold no pods. Assumes nothing.
-use Rattle.std.proofs.Common.{◌≡◌, ℕ, ◌+◌, ◌<◌, ◌≤◌, ◌⊎◌, List, [], map, length, get_or, take, drop, Some, None, Ok, Err, Option, Result, sym, ap, subst, ◌∙◌, inl, inr, arith, length-drop}
-use Rattle.std.proofs.lemmas.List.{take_all, drop_all, drop-drop}
+use Rattle.std.proofs.Common.{◌≡◌, ℕ, ◌+◌, ◌<◌, ◌≤◌, ◌⊎◌, List, map, length, get_or, drop, Some, None, Ok, Err, Option, Result, sym, ap, subst, ◌∙◌, inl, inr, arith, length-drop}
+use Rattle.std.proofs.lemmas.List.{drop-drop}
 use Rattle.std.proofs.lemmas.Bool.{eq-eqb, ne_eqb, le-ltb}
 use Rattle.std.specs.Result.{result_ok}
 use Rattle.refusals.specs.declared.Why.{Why}
@@ -20,7 +20,6 @@ use Rattle.format.proofs.Complete.{choice_of_number}
 use Rattle.format.specs.Layout.{word_at, ArrayCounted, ChoiceLaid, Values, BodyLaid, Laid}
 use Rattle.format.proofs.Values.{word_front, only_values}
 use Rattle.tours.specs.declared.begun.Begun.{Begun}
-use Rattle.tours.specs.RowsTold.{part}
 use Rattle.tours.specs.Told.{pod, element, choice_of}
 use Rattle.tours.specs.Starts.{pointer_kind, values_in}
 
@@ -91,13 +90,6 @@ elements_are bytes rest k child b n words ek er en v =
 pub array_count_lem : (s len n : ℕ) → ArrayCounted s len n → values_in len 8 s ≡ n
 array_count_lem s len n (inl (z, e)) = rw (eq-eqb s 0 z) (sym e)
 array_count_lem s len n (inr (z, long, e)) = rw (ne_eqb s 0 z) (sym e)
-
--- a part, as far as it is there
-pub part_none : (n from : ℕ) (bytes : List ℕ) → length bytes ≤ from → [] ≡ part n from bytes
-part_none n from bytes h = sym (ap (take n) (drop_all from bytes h) ∙ take_all n [] (omega arith))
-
-pub part_rest : (n from : ℕ) (bytes : List ℕ) → length (drop from bytes) ≤ n → drop from bytes ≡ part n from bytes
-part_rest n from bytes h = sym (take_all n (drop from bytes) h)
 
 -- a pointer that was read is the one that is laid out
 pub pointer_word : (bytes : List ℕ) (b len word got : ℕ) (kind : Kind) (rest : List ℕ) → rest ≡ drop (b + 8) bytes → b + 8 + 8 ≤ length bytes → kind ≡ pointer_kind len → Some got ≡ result_ok (body_read kind (λ w. w) rest)

@@ -19,7 +19,7 @@ use Rattle.tours.specs.declared.told.Told.{Told}
 use Rattle.tours.specs.Told as told
 use Rattle.tours.specs.Told.{Thing, element, property, end, thing, elements_of, named, tells, tells_all}
 use Rattle.tours.specs.Starts.{elements_left, Follows, BeginsTree}
-use Rattle.tours.specs.Stack.{innermost, outward, charged, pushed}
+use Rattle.tours.specs.Stack.{innermost, outward, charged, pushed, is_due}
 use Rattle.tours.specs.ByteTold.{tree_told, forest_told, frames_told, place_told, unkeyed, to_tell, FramesLaid, KeyedRight, Standing, Due}
 
 abbrev frame : Holds → ℕ → Frame
@@ -348,8 +348,19 @@ module _ (bytes : List ℕ) (p : ℕ) (f : Frame) (fs : List Frame) (keyed : Boo
 
 -- ---- by what is open
 
-pub no_properties : Fields ≡ Properties → ⊥
+no_properties : Fields ≡ Properties → ⊥
 no_properties e = let y : ◌≡◌ {A = ℕ} 0 1 = cc in omega arith
+
+-- where key and flags are not due, they are told before the pod of a property
+told_before : (keyed : Bool) (h : Holds) → false ≡ is_due keyed h → h ≡ Properties → keyed ≡ true
+told_before true h d e = refl
+told_before false Fields d e = let y : ◌≡◌ {A = ℕ} 0 1 = cc in absurd (omega arith)
+told_before false Properties d e = let y : ◌≡◌ {A = ℕ} 0 1 = cc in absurd (omega arith)
+
+due_properties : (keyed : Bool) (h : Holds) → true ≡ is_due keyed h → (h ≡ Properties) × (keyed ≡ false)
+due_properties keyed Fields d = let y : ◌≡◌ {A = ℕ} 0 1 = cc in absurd (omega arith)
+due_properties true Properties d = let y : ◌≡◌ {A = ℕ} 0 1 = cc in absurd (omega arith)
+due_properties false Properties d = (refl, refl)
 
 opened : (fs : List Frame) (f : Frame) → Some f ≡ innermost fs → fs ≡ f ∷ outward fs
 opened [] f e = let y : ◌≡◌ {A = ℕ} 0 1 = cc in absurd (omega arith)
@@ -359,14 +370,14 @@ closed : (fs : List Frame) → None ≡ innermost fs → fs ≡ []
 closed [] e = refl
 closed (g ∷ fs) e = let y : ◌≡◌ {A = ℕ} 0 1 = cc in absurd (omega arith)
 
-name_any : (bytes : List ℕ) (p : ℕ) (keyed : Bool) (fs : List Frame) (key flags : ℕ) → Standing bytes p fs keyed → Due Properties p fs true → 0 < p → keyed ≡ false → key ≡ little 4 p bytes → flags ≡ little 4 (p + 4) bytes
+name_any : (bytes : List ℕ) (p : ℕ) (keyed : Bool) (fs : List Frame) (key flags : ℕ) → Standing bytes p fs keyed → Due Properties p fs true → keyed ≡ false → key ≡ little 4 p bytes → flags ≡ little 4 (p + 4) bytes
     → Standing bytes p fs true × (to_tell bytes p fs keyed ≡ property key flags ∷ to_tell bytes p fs true)
-name_any bytes p keyed [] key flags s d pos k is is' = absurd (omega (arith, d.0))
-name_any bytes p keyed (f ∷ fs) key flags s d pos k is is' = name_step bytes p f fs keyed s key flags d.1 d.2 k is is'
+name_any bytes p keyed [] key flags s d k is is' = absurd (no_properties (sym d.1))
+name_any bytes p keyed (f ∷ fs) key flags s d k is is' = name_step bytes p f fs keyed s key flags d.1 d.2 k is is'
 
-name_there_any : (bytes : List ℕ) (p : ℕ) (keyed : Bool) (fs : List Frame) → Standing bytes p fs keyed → Due Properties p fs true → 0 < p → p + 8 ≤ length bytes
-name_there_any bytes p keyed [] s d pos = absurd (omega (arith, d.0))
-name_there_any bytes p keyed (f ∷ fs) s d pos = name_there bytes p f fs keyed s d.1 d.2
+name_there_any : (bytes : List ℕ) (p : ℕ) (keyed : Bool) (fs : List Frame) → Standing bytes p fs keyed → Due Properties p fs true → p + 8 ≤ length bytes
+name_there_any bytes p keyed [] s d = absurd (no_properties (sym d.1))
+name_there_any bytes p keyed (f ∷ fs) s d = name_there bytes p f fs keyed s d.1 d.2
 
 module _ (bytes : List ℕ) (p : ℕ) (fs : List Frame) (keyed : Bool) where
   -- the first pod is due
@@ -375,14 +386,14 @@ module _ (bytes : List ℕ) (p : ℕ) (fs : List Frame) (keyed : Bool) where
 
   module _ (stands : ∥ Standing bytes p fs keyed ∥₁) where
     -- the key and flags of a property that is due
-    pub key_there : Due Properties p fs true → 0 < p → p + 8 ≤ length bytes
-    key_there d pos = ∥∥₁_elim stands (Prim.hlevel props) (λ s. name_there_any bytes p keyed fs s d pos)
+    pub key_there : Due Properties p fs true → p + 8 ≤ length bytes
+    key_there d = ∥∥₁_elim stands (Prim.hlevel props) (λ s. name_there_any bytes p keyed fs s d)
 
-    pub key_step : Due Properties p fs true → 0 < p → keyed ≡ false → (key flags : ℕ) → key ≡ little 4 p bytes → flags ≡ little 4 (p + 4) bytes
+    pub key_step : Due Properties p fs true → keyed ≡ false → (key flags : ℕ) → key ≡ little 4 p bytes → flags ≡ little 4 (p + 4) bytes
         → ∥ Standing bytes p fs true ∥₁ × (to_tell bytes p fs keyed ≡ property key flags ∷ to_tell bytes p fs true)
-    key_step d pos k key flags is is' =
+    key_step d k key flags is is' =
         ∥∥₁_elim stands (Prim.hlevel props)
-        (λ s. let step = name_any bytes p keyed fs key flags s d pos k is is' in (∣ step.0 ∣₁, step.1))
+        (λ s. let step = name_any bytes p keyed fs key flags s d k is is' in (∣ step.0 ∣₁, step.1))
 
     -- all has been told
     pub told_all : None ≡ innermost fs → (p ≡ 0 → ⊥) → to_tell bytes p fs keyed ≡ []
@@ -402,7 +413,7 @@ module _ (bytes : List ℕ) (p : ℕ) (fs : List Frame) (keyed : Bool) where
       standing_at : Standing bytes p fs keyed → Standing bytes p (f ∷ outward fs) keyed
       standing_at = subst (λ x. Standing bytes p x keyed) (opened fs f i)
 
-      pub begun_any : 0 < p
+      begun_any : 0 < p
       begun_any = ∥∥₁_elim stands (Prim.hlevel props) (λ s. begun bytes p f (outward fs) keyed (standing_at s))
 
       -- the end of the innermost container
@@ -414,8 +425,8 @@ module _ (bytes : List ℕ) (p : ℕ) (fs : List Frame) (keyed : Bool) where
           (∣ subst (λ x. Standing bytes p x keyed) (sym o) step.0 ∣₁, ap (λ x. to_tell bytes p x keyed) (opened fs f i) ∙ step.1 ∙ ap (λ x. end ∷ to_tell bytes p x keyed) (sym o)))
 
       -- the next pod of a container is due
-      pub due_inner : (h : Holds) → f.holds ≡ h → (f.remaining ≡ 0 → ⊥) → (h ≡ Properties → keyed ≡ true) → Due h p fs keyed
-      due_inner h is r k = subst (λ x. Due h p x keyed) (sym (opened fs f i)) (begun_any, is, omega arith, k)
+      pub due_inner : (f.remaining ≡ 0 → ⊥) → false ≡ is_due keyed f.holds → Due f.holds p fs keyed
+      due_inner r d = subst (λ x. Due f.holds p x keyed) (sym (opened fs f i)) (begun_any, refl, omega arith, told_before keyed f.holds d)
 
-      pub due_name : f.holds ≡ Properties → (f.remaining ≡ 0 → ⊥) → Due Properties p fs true
-      due_name is r = subst (λ x. Due Properties p x true) (sym (opened fs f i)) (begun_any, is, omega arith, λ _. refl)
+      pub due_name : (f.remaining ≡ 0 → ⊥) → true ≡ is_due keyed f.holds → Due Properties p fs true
+      due_name r d = subst (λ x. Due Properties p x true) (sym (opened fs f i)) (begun_any, (due_properties keyed f.holds d).0, omega arith, λ _. refl)

@@ -1,18 +1,13 @@
 -- What a teller of rows has still to tell. Assumes nothing.
-use Rattle.std.specs.Prelude.{◌≡◌, ℕ, Bool, false, cond, not, List, [], ◌∷◌, ◌++◌}
+use Rattle.std.specs.Prelude.{◌≡◌, ℕ, Bool, false, cond, List, [], ◌∷◌, ◌++◌}
 use Rattle.pods.specs.declared.holding.Holds.{Holds}
-use Rattle.pods.specs.declared.holding.Holds.TheVariants.{Fields, Properties}
 use Rattle.pods.specs.declared.rows.Row.{Row}
 use Rattle.tours.specs.declared.open.Frame.{Frame}
 use Rattle.tours.specs.declared.row_tour.RowTeller.{RowTeller}
 use Rattle.tours.specs.Told.{Thing, pod, property}
+use Rattle.tours.specs.Stack.{is_due}
 use Rattle.tours.specs.RowsTold.{row_content, row_elements, ends, unended, holding, behind, rows_tell}
 use Rattle.tours.specs.Starts.{elements_left}
-
--- whether key and flags are still to be told before a pod
-abbrev pub is_due : Bool → Holds → Bool
-is_due keyed Fields = false
-is_due keyed Properties = not keyed
 
 abbrev pub unnamed : Bool → Holds → Row → List Thing
 unnamed keyed h r = cond (is_due keyed h) (property r.key r.flags ∷ []) []

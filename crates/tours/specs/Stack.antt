@@ -1,6 +1,7 @@
 -- The open containers, the innermost first: what each holds, and how many of its bytes are left. Assumes nothing.
-use Rattle.std.specs.Prelude.{ℕ, zero, suc, ◌-◌, cond, List, [], ◌∷◌, length, Some, None, Option, nat_lt, slice_index_or}
-use Rattle.pods.specs.declared.holding.Holds.TheVariants.{Fields}
+use Rattle.std.specs.Prelude.{ℕ, zero, suc, ◌-◌, Bool, false, not, cond, List, [], ◌∷◌, length, Some, None, Option, nat_lt, slice_index_or}
+use Rattle.pods.specs.declared.holding.Holds.{Holds}
+use Rattle.pods.specs.declared.holding.Holds.TheVariants.{Fields, Properties}
 use Rattle.tours.specs.declared.open.Frame.{Frame}
 
 abbrev pub blank : Frame
@@ -31,3 +32,8 @@ charged n (f ∷ outer) = spent n f ∷ outer
 -- one more container, unless 32 are open
 abbrev pub pushed : Frame → List Frame → List Frame
 pushed f fs = cond (nat_lt (length fs) 32) (f ∷ fs) fs
+
+-- whether key and flags are still to be told before a pod
+abbrev pub is_due : Bool → Holds → Bool
+is_due keyed Fields = false
+is_due keyed Properties = not keyed

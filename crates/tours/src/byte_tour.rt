@@ -5,7 +5,7 @@ ghost use Rattle.tours.specs.Told.{told_by};
 ghost use Rattle.tours.specs.Tours.{Toured, tour};
 
 use crate::elements::Elements;
-use crate::open::{Frame, Open, past};
+use crate::open::{Frame, Open, due, past};
 use crate::starts::{Then, start_at};
 use crate::stop::Stop;
 use crate::telling::tell_all;
@@ -52,21 +52,15 @@ impl<'a> Iterator for ByteTeller<'a> {
             self.open.pop();
             return Some(Told::End);
         }
-        match frame.holds {
-            Holds::Fields => self.take(Holds::Fields),
-            Holds::Properties => {
-                if self.keyed {
-                    self.take(Holds::Properties)
-                } else {
-                    self.name()
-                }
-            }
+        if due(frame.holds, self.keyed) {
+            return self.name();
         }
+        self.take(frame.holds)
     }
 }
 
 impl<'a> ByteTeller<'a> {
-    ghost use Rattle.std.specs.Prelude.{◌≡◌, ◌<◌, true, false, []};
+    ghost use Rattle.std.specs.Prelude.{◌≡◌, true, false, []};
     ghost use Rattle.std.specs.Iterator.{YieldsFirstBy};
     ghost use Rattle.pods.specs.declared.holding.Holds.TheVariants.{Properties as PropertiesHeld};
     ghost use Rattle.tours.specs.ByteTold.{Due};
@@ -92,7 +86,6 @@ impl<'a> ByteTeller<'a> {
     fn name(&mut self) -> Option<Told<'a>>
         requires due { Due PropertiesHeld self.old.at self.old.«open» true }
         requires unnamed { self.old.keyed ≡ false }
-        requires inside { 0 < self.old.at }
         requires none { elements_left self.old.values ≡ [] }
         ensures { YieldsFirstBy thing to_tell self.old result self.new }
     {

@@ -32,4 +32,4 @@ impl Model for Open {
 
 mod stack;
 
-pub use stack::past;
+pub use stack::{due, past};

@@ -6,12 +6,6 @@ ghost use Rattle.tours.specs.RowsTold.{part as part_of};
 pub fn part(bytes: &[u8], from: usize, n: usize) -> &[u8]
     ensures { result.now ≡ part_of n from bytes.now }
 {
-    if from >= bytes.len() {
-        return &bytes[0..0];
-    }
-    let rest = &bytes[from..];
-    if n >= rest.len() {
-        return rest;
-    }
-    &rest[0..n]
+    let rest = bytes.get(from..).unwrap_or_default();
+    &rest[..n.min(rest.len())]
 }

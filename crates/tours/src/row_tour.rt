@@ -6,14 +6,14 @@ ghost use Rattle.pods.specs.Outcomes.{gave};
 ghost use Rattle.pods.specs.Survey.{rows_in, says};
 ghost use Rattle.pods.specs.Trees.{Tree};
 ghost use Rattle.tours.specs.Lead.{lead};
-ghost use Rattle.tours.specs.RowsLeft.{Pending, after_pod, is_due, to_tell};
+ghost use Rattle.tours.specs.RowsLeft.{Pending, after_pod, to_tell};
 ghost use Rattle.tours.specs.RowsTold.{elements_at, frame_of, holding, row_content, row_elements, rows_tell};
 ghost use Rattle.tours.specs.Starts.{elements_left};
 ghost use Rattle.tours.specs.Told.{pod, thing, told_by};
 ghost use Rattle.tours.specs.Tours.{Toured, ended, tour};
 
 use crate::elements::Elements;
-use crate::open::{Frame, Open, past};
+use crate::open::{Frame, Open, due, past};
 use crate::parts::part;
 use crate::starts::values_in;
 use crate::stop::Stop;
@@ -92,15 +92,13 @@ fn elements_at(bytes: &[u8], child: u32, count: u32, from: usize) -> Elements<'_
     let Ok(kind) = Kind::try_from(child) else {
         return Elements::none(bytes);
     };
-    let there = values_in(bytes.len(), from, kind.size());
-    let left = (count as usize).min(there);
-    if left == 0 {
+    let Some(rest) = bytes.get(from..) else {
         return Elements::none(bytes);
-    }
+    };
     Elements {
-        bytes: &bytes[from..],
+        bytes: rest,
         kind,
-        left,
+        left: values_in(rest.len(), 0, kind.size()).min(count as usize),
     }
 }
 
@@ -132,16 +130,6 @@ fn frame(row: Row) -> Option<Frame>
         holds,
         remaining: (row.total as usize).saturating_sub(past(holds, 8)),
     })
-}
-
-// Whether key and flags are still to be told before a pod.
-fn due(holds: Holds, keyed: bool) -> bool
-    ensures { result ≡ is_due keyed holds }
-{
-    match holds {
-        Holds::Fields => false,
-        Holds::Properties => !keyed,
-    }
 }
 
 // Tells rows.

@@ -7,7 +7,7 @@ ghost use Rattle.tours.specs.Seeks.{seeks};
 use crate::told::Told;
 use crate::visitor::Visitor;
 
-#[derive(Clone, Copy)]
+#[derive(Clone, Copy, Debug, PartialEq, Eq)]
 pub enum Search {
     Looking,
     // the next pod is the one
@@ -17,7 +17,7 @@ pub enum Search {
 }
 
 // Looks, in the outermost container, for the property with the wanted key; counts the containers that are open.
-#[derive(Clone, Copy)]
+#[derive(Clone, Copy, Debug, PartialEq, Eq)]
 pub struct Seek {
     pub wanted: u32,
     pub opened: u32,

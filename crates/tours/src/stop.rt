@@ -5,7 +5,7 @@ ghost use Rattle.tours.specs.declared.stop.Stop.TheVariants.{Bytes, Visitor};
 use refusals::Refusal;
 
 // The bytes are refused, or the visitor refuses with a number of its own.
-#[derive(Clone, Copy)]
+#[derive(Clone, Copy, Debug, PartialEq, Eq)]
 pub enum Stop {
     Bytes(Refusal),
     Visitor(u32),

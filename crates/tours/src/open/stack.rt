@@ -1,7 +1,7 @@
 // Opening, charging and closing.
 ghost use Rattle.std.specs.Prelude.{◌≡◌, ◌^◌, ◌<◌, []};
 ghost use Rattle.pods.specs.Trees.{past as past_of};
-ghost use Rattle.tours.specs.Stack.{charged, innermost as innermost_of, outward, pushed, spent};
+ghost use Rattle.tours.specs.Stack.{charged, innermost as innermost_of, is_due, outward, pushed, spent};
 
 use super::{Frame, Open};
 use pods::Holds;
@@ -14,6 +14,16 @@ pub fn past(holds: Holds, n: usize) -> usize
     match holds {
         Holds::Fields => n,
         Holds::Properties => n + 8,
+    }
+}
+
+// Whether key and flags are still to be told before a pod.
+pub fn due(holds: Holds, keyed: bool) -> bool
+    ensures { result ≡ is_due keyed holds }
+{
+    match holds {
+        Holds::Fields => false,
+        Holds::Properties => !keyed,
     }
 }
 
