@@ -1,5 +1,5 @@
 // How a pod starts: what it tells first. What a survey has accepted is not tested again.
-ghost use Rattle.std.specs.Prelude.{◌≡◌, ℕ, ◌+◌, ◌≤◌, List, length, drop};
+ghost use Rattle.std.specs.Prelude.{◌≡◌, ℕ, ◌+◌, ◌<◌, ◌≤◌, List, length, drop, MatchOption};
 ghost use Rattle.kinds.specs.declared.kind.Kind.{Kind as Sort};
 ghost use Rattle.pods.specs.declared.choices.ChoiceType.{ChoiceType as Choosing};
 ghost use Rattle.pods.specs.Trees.{Forest, Tree, array, choice, fixed, leaf, object, pointer, raw, struct, text};
@@ -178,13 +178,20 @@ impl<'a> Begun<'a> {
         })
     }
 
+    // All bytes of a container, if there are as many as its header declares.
+    fn held(&self) -> Option<usize>
+        ensures { MatchOption result (length self.now.bytes.now < self.now.len) (λ n. (n ≡ self.now.len + 8) × (self.now.len ≤ length self.now.bytes.now)) }
+    {
+        if self.len > self.bytes.len() {
+            return None;
+        }
+        Some(self.len + 8)
+    }
+
     fn structure(&self) -> Option<Start<'a>>
         ensures { (f : Forest) → Starts self.now (struct f) result }
     {
-        if self.len > self.bytes.len() - self.at {
-            return None;
-        }
-        let total = self.len + 8;
+        let total = self.held()?;
         Some(Start {
             told: Told::StructOpen {
                 place: self.at as u32,
@@ -199,10 +206,7 @@ impl<'a> Begun<'a> {
         ensures { (type id : ℕ) (f : Forest) → Starts self.now (object type id f) result }
     {
         let named = two_words(self.body())?;
-        if self.len > self.bytes.len() - self.at {
-            return None;
-        }
-        let total = self.len + 8;
+        let total = self.held()?;
         Some(Start {
             told: Told::ObjectOpen {
                 place: self.at as u32,

@@ -13,7 +13,7 @@ returns c = λ type id f h.
     let first : c.in_ok-named.named.first ≡ type = a.first_is ∙ h.2 in
     let second : c.in_ok-named.named.second ≡ id = a.second_is ∙ ap (λ p. little 4 p s.bytes.now) place ∙ h.3 in
     let len : s.len ≡ totals Properties f + 8 = s.declared ∙ h.1 in
-    let all : s.len + 8 ≡ totals Properties f + 16 = omega arith in
+    let all : c.in_ok-total.total ≡ totals Properties f + 16 = omega arith in
     record {
       told_is = cc;
       total_is = all;
