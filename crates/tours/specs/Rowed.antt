@@ -1,5 +1,5 @@
 -- The parts of what a `ValueVisitor` makes of told things. Assumes nothing.
-use Rattle.std.specs.Prelude.{ℕ, ◌+◌, ◌%◌, max, cond, List, ◌==◌, nat_lt, slice_set}
+use Rattle.std.specs.Prelude.{ℕ, ◌+◌, ◌%◌, max, cond, List, Ok, Err, Result, ◌==◌, nat_lt, slice_set}
 use Rattle.pods.specs.declared.rows.Row.{Row}
 use Rattle.tours.specs.declared.value_visitor.Unkept.{Unkept}
 use Rattle.tours.specs.declared.value_visitor.Unkept.TheVariants.{TableFull, NothingOpen}
@@ -15,6 +15,10 @@ table_of v = record { rows = v.rows.now; len = v.len; within = v.within; key = v
 abbrev pub unkept : Unkept → ℕ
 unkept TableFull = 1
 unkept NothingOpen = 2
+
+abbrev pub numbered : Result Unit Unkept → Result Unit ℕ
+numbered (Ok _) = Ok tt
+numbered (Err why) = Err (unkept why)
 
 -- a table of which no row stands yet
 abbrev pub empty : List Row → Table

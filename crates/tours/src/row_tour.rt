@@ -24,67 +24,6 @@ use kinds::Kind;
 use pods::{Holds, PodType, Row};
 use words::DoubleWord;
 
-// What a row tells of its pod; a number that stands for no type is told as that of a fixed size.
-fn told(bytes: &[u8], row: Row) -> Told<'_>
-    ensures { thing result ≡ pod row.place row.total (row_content bytes.now row) }
-{
-    let place = row.place;
-    let total = row.total;
-    let fixed = Told::Fixed {
-        place,
-        total,
-        kind: row.kind,
-        word: row.word,
-    };
-    let Ok(kind) = PodType::try_from(row.kind) else {
-        return fixed;
-    };
-    match kind {
-        PodType::Fixed(_) => fixed,
-        PodType::Text => Told::Text {
-            place,
-            total,
-            part: part(bytes, place as usize + 8, row.count as usize),
-        },
-        PodType::Raw => Told::Raw {
-            place,
-            total,
-            part: part(bytes, place as usize + 8, row.count as usize),
-        },
-        PodType::Array => Told::ArrayOf {
-            place,
-            total,
-            child: row.child,
-            count: row.count,
-        },
-        PodType::Struct => Told::StructOpen { place, total },
-        PodType::Object => {
-            let DoubleWord { low, high } = DoubleWord::from(row.word);
-            Told::ObjectOpen {
-                place,
-                total,
-                kind: low,
-                id: high,
-            }
-        }
-        PodType::Pointer => Told::Pointer {
-            place,
-            total,
-            kind: row.side,
-            word: row.word,
-        },
-        PodType::Choice => Told::ChoiceOf {
-            place,
-            total,
-            child: row.child,
-            choice: row.side,
-            flags: row.bits,
-            count: row.count,
-            default: row.word,
-        },
-    }
-}
-
 // At most so many values from a place on, as many as are there.
 fn elements_at(bytes: &[u8], child: u32, count: u32, from: usize) -> Elements<'_>
     ensures { elements_left result ≡ elements_at (kind_of child) count from bytes.now }
@@ -100,21 +39,6 @@ fn elements_at(bytes: &[u8], child: u32, count: u32, from: usize) -> Elements<'_
         kind,
         left: values_in(rest.len(), 0, kind.size()).min(count as usize),
     }
-}
-
-// The values of an array or choice.
-fn elements(bytes: &[u8], row: Row) -> Elements<'_>
-    ensures { elements_left result ≡ row_elements bytes.now row }
-{
-    let Ok(kind) = PodType::try_from(row.kind) else {
-        return Elements::none(bytes);
-    };
-    let head = match kind {
-        PodType::Array => 16,
-        PodType::Choice => 24,
-        _ => return Elements::none(bytes),
-    };
-    elements_at(bytes, row.child, row.count, row.place as usize + head)
 }
 
 // The container that a row opens.
@@ -169,6 +93,82 @@ impl<'a> Iterator for RowTeller<'a> {
 }
 
 impl<'a> RowTeller<'a> {
+    // What a row tells of its pod; a number that stands for no type is told as that of a fixed size.
+    fn told(&self, row: Row) -> Told<'a>
+        ensures { thing result ≡ pod row.place row.total (row_content self.now.bytes.now row) }
+    {
+        let place = row.place;
+        let total = row.total;
+        let fixed = Told::Fixed {
+            place,
+            total,
+            kind: row.kind,
+            word: row.word,
+        };
+        let Ok(kind) = PodType::try_from(row.kind) else {
+            return fixed;
+        };
+        match kind {
+            PodType::Fixed(_) => fixed,
+            PodType::Text => Told::Text {
+                place,
+                total,
+                part: part(self.bytes, place as usize + 8, row.count as usize),
+            },
+            PodType::Raw => Told::Raw {
+                place,
+                total,
+                part: part(self.bytes, place as usize + 8, row.count as usize),
+            },
+            PodType::Array => Told::ArrayOf {
+                place,
+                total,
+                child: row.child,
+                count: row.count,
+            },
+            PodType::Struct => Told::StructOpen { place, total },
+            PodType::Object => {
+                let DoubleWord { low, high } = DoubleWord::from(row.word);
+                Told::ObjectOpen {
+                    place,
+                    total,
+                    kind: low,
+                    id: high,
+                }
+            }
+            PodType::Pointer => Told::Pointer {
+                place,
+                total,
+                kind: row.side,
+                word: row.word,
+            },
+            PodType::Choice => Told::ChoiceOf {
+                place,
+                total,
+                child: row.child,
+                choice: row.side,
+                flags: row.bits,
+                count: row.count,
+                default: row.word,
+            },
+        }
+    }
+
+    // The values of an array or choice.
+    fn elements(&self, row: Row) -> Elements<'a>
+        ensures { elements_left result ≡ row_elements self.now.bytes.now row }
+    {
+        let Ok(kind) = PodType::try_from(row.kind) else {
+            return Elements::none(self.bytes);
+        };
+        let head = match kind {
+            PodType::Array => 16,
+            PodType::Choice => 24,
+            _ => return Elements::none(self.bytes),
+        };
+        elements_at(self.bytes, row.child, row.count, row.place as usize + head)
+    }
+
     // Tells the key and flags of the next row, where they are due, or else its pod.
     fn next_row(&mut self, holds: Holds) -> Option<Told<'a>>
         requires none { elements_left self.old.values ≡ [] }
@@ -197,12 +197,12 @@ impl<'a> RowTeller<'a> {
         ensures rest { to_tell self.new ≡ after_pod self.old row }
     {
         self.keyed = false;
-        self.values = elements(self.bytes, row);
+        self.values = self.elements(row);
         self.open.charge(past(holds, row.total as usize));
         if let Some(frame) = frame(row) {
             self.open.push(frame);
         }
-        told(self.bytes, row)
+        self.told(row)
     }
 }
 

@@ -1,8 +1,9 @@
 // Rows from what is told.
 ghost use Rattle.std.specs.Prelude.{◌≡◌, ◌+◌, [], ◌∷◌};
 ghost use Rattle.tours.specs.Lead.{Kept};
+ghost use Rattle.tours.specs.Told.{thing};
 ghost use Rattle.tours.specs.Table.{Table, counted, fills, holder as holder_of};
-ghost use Rattle.tours.specs.Rowed.{table_of, empty, dressed, placed, left, unkept};
+ghost use Rattle.tours.specs.Rowed.{table_of, empty, dressed, placed, left, numbered, unkept};
 
 use crate::told::Told;
 use crate::visitor::Visitor;
@@ -12,6 +13,7 @@ use words::DoubleWord;
 // Fills a lent table from its start, a row for each pod; `within` is the row of the innermost open container and one more,
 // and `key` and `flags` are of the latest property.
 // Kept: the library has no heap, and rows that stand are found by their number, so a lent table has a length beside it.
+// Kept: `within` has the form of a row's `parent`, which is 0 where nothing is open.
 #[derive(Drop)]
 pub struct ValueVisitor<'a> {
     rows: &'a mut [Row],
@@ -51,6 +53,64 @@ impl Visitor for ValueVisitor<'_> {
     ghost lent = { λ s. s.rows.ghost_name ∷ [] };
 
     fn visit(&mut self, told: Told<'_>) -> Result<(), u32> {
+        Ok(self.keep(told)?)
+    }
+}
+
+impl<'a> ValueVisitor<'a> {
+    // Fills a table from its start, from before a cue is told.
+    pub fn new(rows: &'a mut [Row]) -> Self
+        ensures holds { table_of result ≡ empty rows.old }
+        ensures lends { result.rows.ghost_name ≡ rows.entry.ghost_name }
+    {
+        ValueVisitor {
+            rows,
+            len: 0,
+            within: 0,
+            key: 0,
+            flags: 0,
+        }
+    }
+}
+
+impl ValueVisitor<'_> {
+    // How many rows stand.
+    pub fn len(&self) -> usize
+        ensures { result ≡ (table_of self.now).len }
+    {
+        self.len
+    }
+
+    // The row of the innermost open container.
+    fn holder(&self) -> Row
+        ensures { result ≡ holder_of (table_of self.now) }
+    {
+        let Some(at) = (self.within as usize).checked_sub(1) else {
+            return Row::default();
+        };
+        self.rows.get(at).copied().unwrap_or_default()
+    }
+
+    // A pod's row with what comes from its property and from what holds it.
+    fn dress(&self, row: Row) -> Row
+        ensures { result ≡ dressed (table_of self.now) row }
+    {
+        Row {
+            parent: self.within,
+            key: self.key,
+            flags: self.flags,
+            locked: self.holder().locked.max(self.flags % 2),
+            ..row
+        }
+    }
+
+    // Kept: that the rows stay those that were lent is said of each step, since a ghost field cannot speak of the value before.
+
+    // Keeps what is told: a row for a pod, a property for the pod after it, and where a container ends.
+    fn keep(&mut self, told: Told<'_>) -> Result<(), Unkept>
+        ensures keeps { self.new.rows.ghost_name ≡ self.old.rows.ghost_name }
+        ensures does { Kept (fills (table_of self.old) (thing told.entry)) (numbered result) (table_of self.old) (table_of self.new) }
+    {
         match told {
             Told::Fixed {
                 place,
@@ -157,62 +217,14 @@ impl Visitor for ValueVisitor<'_> {
             Told::End => self.leave(),
         }
     }
-}
-
-impl<'a> ValueVisitor<'a> {
-    // Fills a table from its start, from before a cue is told.
-    pub fn new(rows: &'a mut [Row]) -> Self
-        ensures holds { table_of result ≡ empty rows.old }
-        ensures lends { result.rows.ghost_name ≡ rows.entry.ghost_name }
-    {
-        ValueVisitor {
-            rows,
-            len: 0,
-            within: 0,
-            key: 0,
-            flags: 0,
-        }
-    }
-}
-
-impl ValueVisitor<'_> {
-    // How many rows stand.
-    pub fn len(&self) -> usize
-        ensures { result ≡ (table_of self.now).len }
-    {
-        self.len
-    }
-
-    // The row of the innermost open container.
-    fn holder(&self) -> Row
-        ensures { result ≡ holder_of (table_of self.now) }
-    {
-        let Some(at) = (self.within as usize).checked_sub(1) else {
-            return Row::default();
-        };
-        self.rows.get(at).copied().unwrap_or_default()
-    }
-
-    // A pod's row with what comes from its property and from what holds it.
-    fn dress(&self, row: Row) -> Row
-        ensures { result ≡ dressed (table_of self.now) row }
-    {
-        Row {
-            parent: self.within,
-            key: self.key,
-            flags: self.flags,
-            locked: self.holder().locked.max(self.flags % 2),
-            ..row
-        }
-    }
 
     // One row more, unless the table is full; the property is used up.
-    fn add(&mut self, row: Row) -> Result<(), u32>
+    fn add(&mut self, row: Row) -> Result<(), Unkept>
         ensures keeps { self.new.rows.ghost_name ≡ self.old.rows.ghost_name }
-        ensures does { Kept (placed (table_of self.old) row self.old.within) result (table_of self.old) (table_of self.new) }
+        ensures does { Kept (placed (table_of self.old) row self.old.within) (numbered result) (table_of self.old) (table_of self.new) }
     {
         if self.len >= self.rows.len().min(u32::MAX as usize) {
-            return Err(Unkept::TableFull.into());
+            return Err(Unkept::TableFull);
         }
         self.rows[self.len] = self.dress(row);
         self.len += 1;
@@ -222,9 +234,9 @@ impl ValueVisitor<'_> {
     }
 
     // One row more, of a container that is then the innermost.
-    fn enter(&mut self, row: Row) -> Result<(), u32>
+    fn enter(&mut self, row: Row) -> Result<(), Unkept>
         ensures keeps { self.new.rows.ghost_name ≡ self.old.rows.ghost_name }
-        ensures does { Kept (placed (table_of self.old) row (self.old.len + 1)) result (table_of self.old) (table_of self.new) }
+        ensures does { Kept (placed (table_of self.old) row (self.old.len + 1)) (numbered result) (table_of self.old) (table_of self.new) }
     {
         self.add(row)?;
         self.within = self.len as u32;
@@ -232,12 +244,12 @@ impl ValueVisitor<'_> {
     }
 
     // Goes back to what holds the innermost open container.
-    fn leave(&mut self) -> Result<(), u32>
+    fn leave(&mut self) -> Result<(), Unkept>
         ensures keeps { self.new.rows.ghost_name ≡ self.old.rows.ghost_name }
-        ensures does { Kept (left (table_of self.old)) result (table_of self.old) (table_of self.new) }
+        ensures does { Kept (left (table_of self.old)) (numbered result) (table_of self.old) (table_of self.new) }
     {
         if self.within == 0 {
-            return Err(Unkept::NothingOpen.into());
+            return Err(Unkept::NothingOpen);
         }
         self.within = self.holder().parent;
         Ok(())

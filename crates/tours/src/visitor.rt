@@ -8,6 +8,7 @@ use crate::told::Told;
 
 // Is told one thing at a time. Its meaning is what it holds and a rule: from what it holds and one told thing, what it then
 // holds, or a number of its own. A refusal changes it in nothing.
+// Kept: what a visitor refuses with is a number, as its trait is for any visitor and each has reasons of its own.
 pub trait Visitor {
     ghost Held: { Type 0 };
 
