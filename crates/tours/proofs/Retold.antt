@@ -22,8 +22,8 @@ use Rattle.format.proofs.Trees.{PodLaid, pod_laid, total_eight}
 use Rattle.format.proofs.Reading.{given_at}
 use Rattle.tours.specs.declared.open.Frame.{Frame}
 use Rattle.tours.specs.Told.{Thing, text_of, raw_of, element, end, content_of, elements_of, named, tells, tells_all}
-use Rattle.tours.specs.Stack.{charged, pushed}
-use Rattle.tours.specs.RowsTold.{part, row_content, values_there, row_elements, holding, behind, row_tells, rows_tell}
+use Rattle.tours.specs.Stack.{holding, charged, pushed}
+use Rattle.tours.specs.RowsTold.{part, row_content, values_there, row_elements, behind, row_tells, rows_tell}
 use Rattle.tours.specs.Alike.{RowsTellAlike}
 
 -- ---- leaves

@@ -9,8 +9,8 @@ use Rattle.tours.specs.declared.open.Frame.{Frame}
 use Rattle.tours.specs.declared.row_tour.RowTeller.{RowTeller}
 use Rattle.tours.specs.Told.{Thing, pod, property, named}
 use Rattle.tours.specs.Starts.{elements_left}
-use Rattle.tours.specs.Stack.{is_due}
-use Rattle.tours.specs.RowsTold.{row_content, row_elements, ends, unended, holding, behind, rows_tell}
+use Rattle.tours.specs.Stack.{holding, is_due}
+use Rattle.tours.specs.RowsTold.{row_content, row_elements, ends, unended, behind, rows_tell}
 use Rattle.tours.specs.RowsLeft.{unnamed, rows_left, Pending, to_tell}
 
 pending_ends : (fs : List Frame) → Pending fs → ends fs ≡ []

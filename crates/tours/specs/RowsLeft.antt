@@ -5,8 +5,8 @@ use Rattle.pods.specs.declared.rows.Row.{Row}
 use Rattle.tours.specs.declared.open.Frame.{Frame}
 use Rattle.tours.specs.declared.row_tour.RowTeller.{RowTeller}
 use Rattle.tours.specs.Told.{Thing, pod, property}
-use Rattle.tours.specs.Stack.{is_due}
-use Rattle.tours.specs.RowsTold.{row_content, row_elements, ends, unended, holding, behind, rows_tell}
+use Rattle.tours.specs.Stack.{holding, is_due}
+use Rattle.tours.specs.RowsTold.{row_content, row_elements, ends, unended, behind, rows_tell}
 use Rattle.tours.specs.Starts.{elements_left}
 
 abbrev pub unnamed : Bool → Holds → Row → List Thing

@@ -10,7 +10,7 @@ use Rattle.pods.specs.Trees.{past}
 use Rattle.pods.specs.Leaves.{values}
 use Rattle.tours.specs.declared.open.Frame.{Frame}
 use Rattle.tours.specs.Told.{Content, value, text_of, raw_of, array_of, choice_of, pointer_to, struct_open, object_open, Thing, pod, element, end, named}
-use Rattle.tours.specs.Stack.{charged, pushed}
+use Rattle.tours.specs.Stack.{charged, holding, pushed}
 
 -- n bytes from a place on, as far as they are there
 abbrev pub part : (n from : ℕ) → List ℕ → List ℕ
@@ -50,11 +50,6 @@ ends (f ∷ outer) = cond (f.remaining == 0) (end ∷ ends outer) []
 abbrev pub unended : List Frame → List Frame
 unended [] = []
 unended (f ∷ outer) = cond (f.remaining == 0) (unended outer) (f ∷ outer)
-
--- what the innermost open container holds
-abbrev pub holding : List Frame → Holds
-holding [] = Fields
-holding (f ∷ outer) = f.holds
 
 -- the container that a row opens
 abbrev pub frame_of : Row → Option Frame

@@ -20,6 +20,11 @@ abbrev pub outward : List Frame → List Frame
 outward [] = []
 outward (f ∷ outer) = outer
 
+-- what the innermost open container holds
+abbrev pub holding : List Frame → Holds
+holding [] = Fields
+holding (f ∷ outer) = f.holds
+
 -- n bytes fewer are left, and not below 0
 abbrev pub spent : ℕ → Frame → Frame
 spent n f = record { holds = f.holds; remaining = f.remaining - n }

@@ -7,7 +7,7 @@ ghost use Rattle.pods.specs.Survey.{rows_in, says};
 ghost use Rattle.pods.specs.Trees.{Tree};
 ghost use Rattle.tours.specs.Lead.{lead};
 ghost use Rattle.tours.specs.RowsLeft.{Pending, after_pod, to_tell};
-ghost use Rattle.tours.specs.RowsTold.{elements_at, frame_of, holding, row_content, row_elements, rows_tell};
+ghost use Rattle.tours.specs.RowsTold.{elements_at, frame_of, row_content, row_elements, rows_tell};
 ghost use Rattle.tours.specs.Starts.{elements_left};
 ghost use Rattle.tours.specs.Told.{pod, thing, told_by};
 ghost use Rattle.tours.specs.Tours.{Toured, ended, tour};
@@ -78,17 +78,11 @@ impl<'a> Iterator for RowTeller<'a> {
         if let Some(told) = self.values.next() {
             return Some(told);
         }
-        match self.open.innermost() {
-            Some(Frame { holds, remaining }) => {
-                if remaining == 0 {
-                    self.open.pop();
-                    Some(Told::End)
-                } else {
-                    self.next_row(holds)
-                }
-            }
-            None => self.next_row(Holds::Fields),
+        if let Some(Frame { remaining: 0, .. }) = self.open.innermost() {
+            self.open.pop();
+            return Some(Told::End);
         }
+        self.next_row()
     }
 }
 
@@ -170,16 +164,15 @@ impl<'a> RowTeller<'a> {
     }
 
     // Tells the key and flags of the next row, where they are due, or else its pod.
-    fn next_row(&mut self, holds: Holds) -> Option<Told<'a>>
+    fn next_row(&mut self) -> Option<Told<'a>>
         requires none { elements_left self.old.values ≡ [] }
         requires pending { Pending self.old.«open» }
-        requires held { holds ≡ holding self.old.«open» }
         ensures { YieldsFirstBy thing to_tell self.old result self.new }
     {
         let [row, rest @ ..] = self.rows else {
             return None;
         };
-        if due(holds, self.keyed) {
+        if due(self.open.holding(), self.keyed) {
             self.keyed = true;
             return Some(Told::Property {
                 key: row.key,
@@ -187,18 +180,18 @@ impl<'a> RowTeller<'a> {
             });
         }
         self.rows = rest;
-        Some(self.take(*row, holds))
+        Some(self.take(*row))
     }
 
     // Tells a row's pod, and goes on behind it or into it.
-    fn take(&mut self, row: Row, holds: Holds) -> Told<'a>
-        requires { holds ≡ holding self.old.«open» }
+    fn take(&mut self, row: Row) -> Told<'a>
         ensures told { thing result ≡ pod row.place row.total (row_content self.old.bytes.now row) }
         ensures rest { to_tell self.new ≡ after_pod self.old row }
     {
         self.keyed = false;
         self.values = self.elements(row);
-        self.open.charge(past(holds, row.total as usize));
+        self.open
+            .charge(past(self.open.holding(), row.total as usize));
         if let Some(frame) = frame(row) {
             self.open.push(frame);
         }

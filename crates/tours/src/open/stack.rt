@@ -1,7 +1,7 @@
 // Opening, charging and closing.
 ghost use Rattle.std.specs.Prelude.{◌≡◌, ◌^◌, ◌<◌, []};
 ghost use Rattle.pods.specs.Trees.{past as past_of};
-ghost use Rattle.tours.specs.Stack.{charged, innermost as innermost_of, is_due, outward, pushed, spent};
+ghost use Rattle.tours.specs.Stack.{charged, holding as holding_of, innermost as innermost_of, is_due, outward, pushed, spent};
 
 use super::{Frame, Open};
 use pods::Holds;
@@ -55,6 +55,16 @@ impl Open {
     {
         let last = self.len.checked_sub(1)?;
         Some(self.frames[last])
+    }
+
+    // What the innermost container holds; outside all of them a field stands.
+    pub fn holding(&self) -> Holds
+        ensures { result ≡ holding_of self.now }
+    {
+        match self.innermost() {
+            Some(frame) => frame.holds,
+            None => Holds::Fields,
+        }
     }
 
     // The innermost container, if there is one, is lent, and lowered in place.

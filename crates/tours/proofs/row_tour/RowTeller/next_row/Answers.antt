@@ -10,10 +10,10 @@ returns-in_default c =
 pub returns-then-due : goal.returns-then-due
 returns-then-due c =
     let first = first_of _ c.args.self.now.rows.now c.in-len1-up.len_at_least in
-    next_key c.args.self.now c.requires.none c.requires.pending _ _ first c.args.holds c.requires.held (sym c.if-due.true ∙ c.due.ensures)
+    next_key c.args.self.now c.requires.none c.requires.pending _ _ first c.holding.result c.holding.ensures (sym c.if-due.true ∙ c.due.ensures)
 
 pub returns : goal.returns
 returns c =
     let first = first_of _ c.args.self.now.rows.now c.in-len1-up.len_at_least in
     rw (c.take.ensures.told, c.take.ensures.rest)
-    (next_pod c.args.self.now c.requires.none c.requires.pending _ _ first c.args.holds c.requires.held (sym c.if-due.false ∙ c.due.ensures))
+    (next_pod c.args.self.now c.requires.none c.requires.pending _ _ first c.holding.result c.holding.ensures (sym c.if-due.false ∙ c.due.ensures))
