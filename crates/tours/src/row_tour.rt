@@ -190,8 +190,8 @@ impl<'a> RowTeller<'a> {
     {
         self.keyed = false;
         self.values = self.elements(row);
-        self.open
-            .charge(past(self.open.holding(), row.total as usize));
+        let holds = self.open.holding();
+        self.open.charge(past(holds, row.total as usize));
         if let Some(frame) = frame(row) {
             self.open.push(frame);
         }
