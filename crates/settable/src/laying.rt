@@ -15,8 +15,15 @@ pub fn lay(kind: Kind, word: u64, body: &mut [u8]) -> Result<(), Why>
         return Err(Why::Missing);
     }
     let bytes = word.to_le_bytes();
-    for i in 0..size {
-        body[i] = bytes[i];
-    }
+    body[..size].copy_from_slice(&bytes[..size]);
     Ok(())
+}
+
+// The same of a value's word, which is refused where there is none.
+pub fn lay_value(kind: Kind, word: Option<u64>, body: &mut [u8]) -> Result<(), Why>
+    ensures answer { result ≡ lay_answer kind word body.old }
+    ensures after { body.new ≡ lay_body kind word body.old }
+{
+    let word = word.ok_or(Why::NotANumber)?;
+    lay(kind, word, body)
 }

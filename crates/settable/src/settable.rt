@@ -7,9 +7,10 @@ ghost use Rattle.kinds.specs.Bodies.{body_read};
 ghost use Rattle.kinds.specs.Kinds.{size_of, said};
 ghost use Rattle.settable.specs.Laying.{lay_answer, lay_body};
 
-use crate::laying::lay;
+use crate::laying::lay_value;
 use kinds::{CanonicalFixedSizedPod, Fd, Fraction, Id, Rectangle};
 use refusals::Why;
+use words::DoubleWord;
 
 // Values that can be laid: `word` is the word that means the value, or none where it is not a number.
 pub trait SettableFixedSizedPod: CanonicalFixedSizedPod {
@@ -26,10 +27,7 @@ pub trait SettableFixedSizedPod: CanonicalFixedSizedPod {
         ensures after { body.new ≡ lay_body Self.CanonicalFixedSizedPod.kind (word self) body.old }
         ensures reads { OnOk result (body_read Self.CanonicalFixedSizedPod.kind Self.CanonicalFixedSizedPod.means body.new ≡ Read self) }
     {
-        let Some(word) = self.word() else {
-            return Err(Why::NotANumber);
-        };
-        lay(Self::kind(), word, body)
+        lay_value(Self::kind(), self.word(), body)
     }
 }
 
@@ -37,7 +35,7 @@ impl SettableFixedSizedPod for bool {
     ghost word = { λ b. There (if b then 1 else 0) };
 
     fn word(self) -> Option<u64> {
-        Some(if self { 1 } else { 0 })
+        Some(u64::from(self))
     }
 }
 
@@ -91,7 +89,10 @@ impl SettableFixedSizedPod for Rectangle {
     ghost word = { λ x. There (x.width + x.height * 2 ^ 32) };
 
     fn word(self) -> Option<u64> {
-        Some(u64::from(self.width) + u64::from(self.height) * 0x1_0000_0000)
+        Some(u64::from(DoubleWord {
+            low: self.width,
+            high: self.height,
+        }))
     }
 }
 
@@ -99,7 +100,10 @@ impl SettableFixedSizedPod for Fraction {
     ghost word = { λ x. There (x.num + x.denom * 2 ^ 32) };
 
     fn word(self) -> Option<u64> {
-        Some(u64::from(self.num) + u64::from(self.denom) * 0x1_0000_0000)
+        Some(u64::from(DoubleWord {
+            low: self.num,
+            high: self.denom,
+        }))
     }
 }
 

@@ -4,6 +4,7 @@ ghost use Rattle.kinds.specs.Kinds.{said, size_of};
 ghost use Rattle.settable.specs.Laying.{lay_answer, lay_body};
 ghost use Rattle.settable.specs.Values.{value_kind, value_word};
 
+use crate::laying::lay_value;
 use crate::settable::SettableFixedSizedPod;
 use kinds::{Fd, Fraction, Id, Kind, Rectangle};
 use refusals::Why;
@@ -61,16 +62,6 @@ impl Value {
         ensures answer { result ≡ lay_answer (value_kind self) (value_word self) body.old }
         ensures after { body.new ≡ lay_body (value_kind self) (value_word self) body.old }
     {
-        match self {
-            Value::Bool(value) => value.serialize_body(body),
-            Value::Id(value) => value.serialize_body(body),
-            Value::Int(value) => value.serialize_body(body),
-            Value::Long(value) => value.serialize_body(body),
-            Value::Float(value) => value.serialize_body(body),
-            Value::Double(value) => value.serialize_body(body),
-            Value::Rectangle(value) => value.serialize_body(body),
-            Value::Fraction(value) => value.serialize_body(body),
-            Value::Fd(value) => value.serialize_body(body),
-        }
+        lay_value(self.kind(), self.word(), body)
     }
 }

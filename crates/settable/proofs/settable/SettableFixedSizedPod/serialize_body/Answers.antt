@@ -1,15 +1,12 @@
-use Rattle.std.proofs.Common.{sym}
-use Rattle.settable.proofs.Bytes.{laid_out}
+use Rattle.std.proofs.Common.{ap, ◌∙◌}
+use Rattle.settable.specs.Laying.{lay_answer, lay_body}
+use Rattle.settable.proofs.Bytes.{laid_reads}
 use Rattle.settable.proofs.settable.SettableFixedSizedPod.serialize_body.Goals as goal
 
-pub returns : goal.returns
-returns g c =
+pub returns-clause-reads : goal.returns-clause-reads
+returns-clause-reads g c =
     let kind = g.Self.CanonicalFixedSizedPod.kind in
-    let means = g.Self.CanonicalFixedSizedPod.means in
     let body = c.args.body.now in
-    let meant = c.in-Some.ensures.means in
-    let laid =
-    laid_out kind means c.args.self c.in-Some.word body meant.0 meant.1 meant.2
-    c.kind.result (g.Self.SettableFixedSizedPod.word c.args.self) c.lay.result c.lay.new.body
-    c.kind.ensures (sym c.in-Some.ensures.value) c.lay.ensures.answer c.lay.ensures.after in
-    record { answer = laid.answer; after = laid.then_is; reads = laid.reads }
+    let word = c.word.result in
+    laid_reads kind g.Self.CanonicalFixedSizedPod.means c.args.self word body c.lay_value.result c.lay_value.new.body c.word.ensures.means
+    (c.lay_value.ensures.answer ∙ ap (λ k. lay_answer k word body) c.kind.ensures) (c.lay_value.ensures.after ∙ ap (λ k. lay_body k word body) c.kind.ensures)
