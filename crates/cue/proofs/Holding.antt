@@ -1,5 +1,7 @@
 -- A table filled with the rows of bytes, and held. Assumes nothing.
-use Rattle.std.proofs.Common.{◌≡◌, ℕ, ◌≤◌, Bool, true, false, cond, ◌&&◌, ltb, leb, List, ◌++◌, length, take, drop, Ok, Err, Result, sym, refl, ap, ◌∙◌, subst, arith, length-append, length-take-le, ltb-false, ltb-true, le-ltb, le-leb}
+use Rattle.std.proofs.Common.{◌≡◌, ℕ, ◌≤◌, Bool, true, false, cond, ◌&&◌, ltb, leb, List, ◌++◌, length, take, drop, Some, None, Option, Ok, Err, Result, sym, refl, ap, ◌∙◌, subst, arith, length-append, length-take-le, ltb-false, ltb-true, le-ltb, le-leb}
+use Rattle.std.specs.Option.{is_some, unwrap_or, option_map}
+use Rattle.std.specs.Result.{result_ok}
 use borrow.Author.Tests.{lt-leb}
 use lib.Seq.{take-append_seam}
 use Rattle.refusals.specs.declared.Refusal.{Refusal}
@@ -21,6 +23,7 @@ use Rattle.histories.specs.Plain.{toured}
 use Rattle.histories.specs.Cues.{told_of as things_told_of}
 use Rattle.histories.proofs.Saying.{accepted_says, told_said}
 use Rattle.cue.specs.Keeps.{told_of}
+use Rattle.cue.specs.Rows.{Stands}
 use Rattle.histories.specs.Cues.{is_given, rows_said, accepts, rows_of}
 use Rattle.histories.specs.Held.{Held, holding, filled}
 
@@ -70,34 +73,43 @@ not_filled (gave t used) table e h = by (ltb (length table) (length (rows_in t))
 
 -- ---- held open, or shut
 
-pub record Opened (bytes : List ℕ) (table new : List Row) (count : ℕ) : Type 0 where
-  pub whole : accepts bytes ≡ true
-  pub stands : rows_of bytes ≡ take count new
-  pub fits : count ≤ length new
-  pub held : ◌≡◌ {A = Held} (record { bytes = bytes; rows = new; count = count; opened = true }) (holding bytes table)
+pub record Newly (bytes : List ℕ) (table new : List Row) (standing : Option ℕ) : Type 0 where
+  pub stands : (n : ℕ) → standing ≡ Some n → Stands bytes new n
+  pub held : ◌≡◌ {A = Held} (record { bytes = bytes; rows = new; count = unwrap_or standing 0; opened = is_some standing }) (holding bytes table)
 
-pub opened : (bytes : List ℕ) (table new : List Row) (found : Surveyed) → Ok found ≡ (filled_by (says bytes) table).0 → new ≡ (filled_by (says bytes) table).1 → Opened bytes table new found.rows
+opened : (bytes : List ℕ) (table new : List Row) (found : Surveyed) → Ok found ≡ (filled_by (says bytes) table).0 → new ≡ (filled_by (says bytes) table).1 → Newly bytes table new (Some found.rows)
 unfolding accepts rows_of
 opened bytes table new found h is =
     let f = full (says bytes) table found h in
     let new_is : new ≡ filled bytes table = is ∙ f.table_is in
     let open' : accepts bytes && leb (length (rows_of bytes)) (length table) ≡ true =
     ap (λ b. b && leb (length (rows_of bytes)) (length table)) f.is_given_lem ∙ le-leb (length (rows_of bytes)) (length table) f.room in
+    let st : Stands bytes new found.rows =
     record {
       whole = f.is_given_lem;
-      stands = sym (ap (λ n. take n new) f.rows_are ∙ ap (take (length (rows_of bytes))) new_is ∙ take-append_seam (rows_of bytes) (drop (length (rows_of bytes)) table));
+      same = sym (ap (λ n. take n new) f.rows_are ∙ ap (take (length (rows_of bytes))) new_is ∙ take-append_seam (rows_of bytes) (drop (length (rows_of bytes)) table));
       fits = omega (arith, f.rows_are, ap length new_is, length-append (rows_of bytes) (drop (length (rows_of bytes)) table));
+    } in
+    record {
+      stands = λ n e. (let same : found.rows ≡ n = cc in subst (Stands bytes new) same st);
       held = (λ j. record { bytes = bytes; rows = new_is j; count = f.rows_are j; opened = true })
           ∙ sym (ap (λ b. cond b (record { bytes = bytes; rows = filled bytes table; count = length (rows_of bytes); opened = true }) (record { bytes = bytes; rows = table; count = 0; opened = false })) open');
     }
 
-pub shut : (bytes : List ℕ) (table new : List Row) (e : Refusal) → Err e ≡ (filled_by (says bytes) table).0 → new ≡ (filled_by (says bytes) table).1
-    → ◌≡◌ {A = Held} (record { bytes = bytes; rows = new; count = 0; opened = false }) (holding bytes table)
+shut : (bytes : List ℕ) (table new : List Row) (e : Refusal) → Err e ≡ (filled_by (says bytes) table).0 → new ≡ (filled_by (says bytes) table).1 → Newly bytes table new None
 unfolding accepts rows_of
 shut bytes table new e h is =
     let f = not_filled (says bytes) table e h in
-    (λ j. record { bytes = bytes; rows = (is ∙ f.table_is) j; count = 0; opened = false })
-    ∙ sym (ap (λ b. cond b (record { bytes = bytes; rows = filled bytes table; count = length (rows_of bytes); opened = true }) (record { bytes = bytes; rows = table; count = 0; opened = false })) f.no_room)
+    record {
+      stands = λ n e. (let z : ◌≡◌ {A = ℕ} 0 1 = cc in absurd (omega arith));
+      held = (λ j. record { bytes = bytes; rows = (is ∙ f.table_is) j; count = 0; opened = false })
+          ∙ sym (ap (λ b. cond b (record { bytes = bytes; rows = filled bytes table; count = length (rows_of bytes); opened = true }) (record { bytes = bytes; rows = table; count = 0; opened = false })) f.no_room);
+    }
+
+pub newly : (bytes : List ℕ) (table new : List Row) (r : Result Surveyed Refusal) → r ≡ (filled_by (says bytes) table).0 → new ≡ (filled_by (says bytes) table).1
+    → (standing : Option ℕ) → standing ≡ option_map (λ s. s.rows) (result_ok r) → Newly bytes table new standing
+newly bytes table new (Ok found) h is standing s = subst (Newly bytes table new) (sym s) (opened bytes table new found h is)
+newly bytes table new (Err e) h is standing s = subst (Newly bytes table new) (sym s) (shut bytes table new e h is)
 
 -- a tour's answer as that of a call
 pub toured_as : {S : Type 0} (l : Led S) (r : Result ℕ Stop) (new : S) → Toured (ended l) r new → ◌≡◌ {A = Result ℕ Why × S} (told_of r, new) (toured l)
@@ -113,17 +125,29 @@ toured_bytes rule s bytes r a new ok e is =
     ap (λ b. (b, new)) is ∙ toured_as (lead rule s (tells x.tree 0)) r new (subst (λ o. Toured (tour rule s o) r new) by e)
     ∙ ap (λ ts. toured (lead rule s ts)) (sym told)
 
-pub when_open : {A : Type 0} (o : Bool) → o ≡ true → (x y : A) → x ≡ cond o x y
-when_open o e x y = sym (ap (λ b. cond b x y) e)
-
 -- rows that stand are filled again as they are
-pub refilled_same : (bytes : List ℕ) (table new : List Row) (count : ℕ) (r : Result Surveyed Refusal) → accepts bytes ≡ true → rows_of bytes ≡ take count table → count ≤ length table
-    → r ≡ (filled_by (says bytes) table).0 → new ≡ (filled_by (says bytes) table).1 → new ≡ filled bytes table
+pub record Refilled (bytes : List ℕ) (table new : List Row) (count : ℕ) : Type 0 where
+  pub rows : new ≡ filled bytes table
+  pub stands : Stands bytes new count
+
+pub refilled : (bytes : List ℕ) (table new : List Row) (count : ℕ) (r : Result Surveyed Refusal) → Stands bytes table count
+    → r ≡ (filled_by (says bytes) table).0 → new ≡ (filled_by (says bytes) table).1 → Refilled bytes table new count
 unfolding accepts rows_of
-refilled_same bytes table new count r ok stands fits h is = is ∙ by (says bytes) ok stands
+refilled bytes table new count r st h is =
+    let rows = rows_of bytes in
+    let new_is : new ≡ filled bytes table = is ∙ by (says bytes) st.whole st.same in
+    let counts : length rows ≡ count = ap length st.same ∙ length-take-le count table st.fits in
+    record {
+      rows = new_is;
+      stands = record {
+        whole = st.whole;
+        same = sym (ap (take count) new_is ∙ ap (λ n. take n (filled bytes table)) (sym counts) ∙ take-append_seam rows (drop (length rows) table));
+        fits = omega (arith, counts, ap length new_is, length-append rows (drop (length rows) table));
+      };
+    }
   where
     by : (o : Outcome Tree) → is_given o ≡ true → rows_said o ≡ take count table → (filled_by o table).1 ≡ rows_said o ++ drop (length (rows_said o)) table
-    by (refused e) ok st = let z : ◌≡◌ {A = ℕ} 0 1 = cc in absurd (omega arith)
-    by (gave t used) ok st =
+    by (refused e) ok st' = let z : ◌≡◌ {A = ℕ} 0 1 = cc in absurd (omega arith)
+    by (gave t used) ok st' =
         ap (λ b. (cond {A = Result Surveyed Refusal × List Row} b (Err (record { why = TooManyRows; spot = spot_at 0 1 }), table) (Ok (record { rows = length (rows_in t); used = used }), rows_in t ++ drop (length (rows_in t)) table)).1)
-        (le-ltb (length table) (length (rows_in t)) (omega (arith, ap length st, length-take-le count table fits)))
+        (le-ltb (length table) (length (rows_in t)) (omega (arith, ap length st', length-take-le count table st.fits)))

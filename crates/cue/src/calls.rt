@@ -1,5 +1,5 @@
 // The calls on a held cue.
-ghost use Rattle.std.specs.Prelude.{◌≡◌, ◌^◌, ◌<◌, true, false, List, Some as There};
+ghost use Rattle.std.specs.Prelude.{◌≡◌, ◌^◌, ◌<◌, true, List, None as Nothing, Some as There};
 ghost use Rattle.settable.specs.Values.{value_kind, value_word};
 ghost use Rattle.format.specs.Places.{row_at};
 ghost use Rattle.laying.specs.Elements.{IsWord, Settable};
@@ -7,12 +7,13 @@ ghost use Rattle.tours.specs.Told.{Thing};
 ghost use Rattle.histories.specs.Held.{holding, refilled as refilled_of, relaid as relaid_of, Looked, TouredBytes, TouredRows, WasReread, WasSet};
 ghost use Rattle.histories.specs.Histories.{Life};
 ghost use Rattle.cue.specs.Permits.{Permitted, set_answer};
-ghost use Rattle.cue.specs.Keeps.{held_of, Lent, standing_of, told_of};
+ghost use Rattle.cue.specs.Keeps.{held_of, Lent, Opens, standing_of, why_of};
 
-use crate::elements::{element_place, word_at};
 use crate::held::Cue;
-use crate::parties::known;
-use crate::setting::{checked, lay_at, reworded};
+use crate::opened::Opened;
+use crate::parties::Party;
+use crate::pod::Pod;
+use crate::setting::{lay_at, reworded};
 use pods::Row;
 use refusals::Why;
 use settable::Value;
@@ -26,37 +27,30 @@ impl<'a> Cue<'a> {
         ensures lends { (result.bytes.ghost_name ≡ bytes.entry.ghost_name) × (result.rows.ghost_name ≡ rows.entry.ghost_name) }
         ensures life { (held_of result).opened ≡ true → Life (List Thing) bytes.old (held_of result) }
     {
-        let Ok(found) = fill(bytes, rows) else {
-            return Cue {
-                bytes,
-                rows,
-                count: 0,
-                opened: false,
-            };
-        };
+        let standing = fill(bytes, rows).ok().map(|found| found.rows);
         Cue {
             bytes,
             rows,
-            count: found.rows,
-            opened: true,
+            standing,
         }
+    }
+
+    // What is open of the cue.
+    fn opened(&self) -> Result<Opened<'_>, Why>
+        ensures { Opens (held_of self.now) result }
+    {
+        let count = self.standing.ok_or(Why::Shut)?;
+        Ok(Opened {
+            bytes: self.bytes,
+            rows: &self.rows[..count],
+        })
     }
 
     // The word of an element: a byte of text or raw data, a value of an array or choice, else the word of the row.
     pub fn look(&self, row: usize, element: usize) -> Result<u64, Why>
         ensures { Looked (held_of self.now) row element result }
     {
-        if !self.opened {
-            return Err(Why::Shut);
-        }
-        if row >= self.count {
-            return Err(Why::NoRow);
-        }
-        let found = self.rows[row];
-        if element >= found.count as usize {
-            return Err(Why::NoElement);
-        }
-        Ok(word_at(self.bytes, found, element))
+        self.opened()?.pod(row)?.look(element)
     }
 
     // Lays a value at an element for a party: rigging is 1, stage management 2. A refusal changes nothing.
@@ -83,22 +77,15 @@ impl<'a> Cue<'a> {
         requires { word ≡ value_word value }
         ensures { Permitted (set_answer (held_of self.now) party row element value) value element result }
     {
-        if !self.opened {
-            return Err(Why::Shut);
-        }
-        if !known(party) {
-            return Err(Why::NoParty);
-        }
-        if row >= self.count {
-            return Err(Why::NoRow);
-        }
-        checked(self.bytes, self.rows[row], party, element, value, word)
+        let cue = self.opened()?;
+        let party = Party::try_from(party)?;
+        cue.pod(row)?.checked(party, element, value, word)
     }
 
     // The cue with a value laid at an element, and its row updated.
     fn relaid(self, row: usize, element: usize, value: Value, word: u64) -> Cue<'a>
-        requires open { self.opened ≡ true }
-        requires there { row < self.count }
+        requires open { (held_of self).opened ≡ true }
+        requires there { row < (held_of self).count }
         requires settable { Settable (row_at self.rows.now row) element (value_kind value) }
         requires few { element < 2 ^ 32 }
         requires word { value_word value ≡ There word }
@@ -109,17 +96,17 @@ impl<'a> Cue<'a> {
         let Cue {
             bytes,
             rows,
-            count,
-            opened,
+            standing,
         } = self;
         let found = rows[row];
-        lay_at(bytes, element_place(found, element), value);
+        let pod = Pod { bytes, row: found };
+        let at = pod.element_place(element);
+        lay_at(bytes, at, value);
         rows[row] = reworded(found, word);
         Cue {
             bytes,
             rows,
-            count,
-            opened,
+            standing,
         }
     }
 
@@ -128,9 +115,7 @@ impl<'a> Cue<'a> {
         ensures was { WasReread (held_of self.old) result (held_of self.new) }
         ensures lent { Lent self.old self.new }
     {
-        if !self.opened {
-            return Err(Why::Shut);
-        }
+        self.opened()?;
         let cue = replace(self, none());
         *self = cue.refilled();
         Ok(())
@@ -138,22 +123,20 @@ impl<'a> Cue<'a> {
 
     // The cue with its rows filled from its bytes.
     fn refilled(self) -> Cue<'a>
-        requires { self.opened ≡ true }
+        requires { (held_of self).opened ≡ true }
         ensures was { held_of result ≡ refilled_of (held_of self.entry) }
         ensures lent { Lent self.entry result }
     {
         let Cue {
             bytes,
             rows,
-            count,
-            opened,
+            standing,
         } = self;
         let _ = fill(bytes, rows);
         Cue {
             bytes,
             rows,
-            count,
-            opened,
+            standing,
         }
     }
 
@@ -162,10 +145,8 @@ impl<'a> Cue<'a> {
         ensures toured { TouredBytes (held_of self.now) V.rule (V.held visitor.old) (result, V.held visitor.new) }
         ensures keeps { V.lent visitor.new ≡ V.lent visitor.old }
     {
-        if !self.opened {
-            return Err(Why::Shut);
-        }
-        told(tours::tour_bytes(self.bytes, visitor))
+        let cue = self.opened()?;
+        tours::tour_bytes(cue.bytes, visitor).map_err(refused)
     }
 
     // The same from the rows that stand.
@@ -173,55 +154,43 @@ impl<'a> Cue<'a> {
         ensures toured { TouredRows (held_of self.now) V.rule (V.held visitor.old) (result, V.held visitor.new) }
         ensures keeps { V.lent visitor.new ≡ V.lent visitor.old }
     {
-        if !self.opened {
-            return Err(Why::Shut);
-        }
-        told(tours::tour_rows(self.bytes, &self.rows[0..self.count], visitor))
+        let cue = self.opened()?;
+        tours::tour_rows(cue.bytes, cue.rows, visitor).map_err(refused)
     }
 
     // Whether the cue is open, and how many rows stand.
     pub fn standing(&self) -> Option<usize>
         ensures { result ≡ standing_of (held_of self.now) }
     {
-        if !self.opened {
-            return None;
-        }
-        Some(self.count)
+        self.standing
     }
 
     // Ends the cue's life: the bytes and the table as they then are, to whoever goes on with them.
     pub fn release(self) -> (&'a mut [u8], &'a mut [Row])
         ensures { (result.0.now ≡ (held_of self.entry).bytes) × (result.1.now ≡ (held_of self.entry).rows) }
     {
-        let Cue {
-            bytes,
-            rows,
-            count: _,
-            opened: _,
-        } = self;
+        let Cue { bytes, rows, .. } = self;
         (bytes, rows)
     }
 }
 
 // A cue of nothing, shut.
 fn none<'a>() -> Cue<'a>
-    ensures { result.opened ≡ false }
+    ensures { result.standing ≡ Nothing }
 {
     Cue {
         bytes: &mut [],
         rows: &mut [],
-        count: 0,
-        opened: false,
+        standing: None,
     }
 }
 
-// A tour's answer as that of a call.
-fn told(answer: Result<usize, Stop>) -> Result<usize, Why>
-    ensures { result ≡ told_of answer }
+// Why a tour ended early, as a call refuses.
+fn refused(stop: Stop) -> Why
+    ensures { result ≡ why_of stop }
 {
-    match answer {
-        Ok(count) => Ok(count),
-        Err(Stop::Visitor(number)) => Err(Why::VisitorRefused(number)),
-        Err(Stop::Bytes(refusal)) => Err(refusal.why),
+    match stop {
+        Stop::Visitor(number) => Why::VisitorRefused(number),
+        Stop::Bytes(refusal) => refusal.why,
     }
 }

@@ -4,9 +4,10 @@
 mod calls;
 mod checking;
 mod choosing;
-mod elements;
 mod held;
+mod opened;
 mod parties;
+mod pod;
 mod setting;
 
 pub use checking::check;

@@ -1,23 +1,37 @@
 // The parties.
 ghost use Rattle.std.specs.Prelude.{◌≡◌};
-ghost use Rattle.histories.specs.Parties.{known as is_known, may_set};
+ghost use Rattle.histories.specs.Parties.{may_set};
+ghost use Rattle.cue.specs.Parties.{IsParty, party_number};
 
 use pods::Row;
+use refusals::Why;
 
-const RIGGING: u32 = 1;
-
-const STAGE_MANAGEMENT: u32 = 2;
-
-// Whether there is such a party.
-pub fn known(party: u32) -> bool
-    ensures { result ≡ is_known party }
-{
-    party == RIGGING || party == STAGE_MANAGEMENT
+#[derive(Clone, Copy, Debug, PartialEq, Eq)]
+pub enum Party {
+    Rigging,
+    StageManagement,
 }
 
-// Stage management may not set what is read-only.
-pub fn may_set(party: u32, row: Row) -> bool
-    ensures { result ≡ may_set party row }
-{
-    party != STAGE_MANAGEMENT || row.locked != 1
+// The party of a number; other numbers are refused.
+impl TryFrom<u32> for Party {
+    type Error = Why;
+
+    ghost try_from_gives = { IsParty };
+
+    fn try_from(number: u32) -> Result<Party, Why> {
+        match number {
+            1 => Ok(Party::Rigging),
+            2 => Ok(Party::StageManagement),
+            _ => Err(Why::NoParty),
+        }
+    }
+}
+
+impl Party {
+    // Stage management may not set what is read-only.
+    pub fn may_set(self, row: Row) -> bool
+        ensures { result ≡ may_set (party_number self) row }
+    {
+        self != Party::StageManagement || row.locked != 1
+    }
 }

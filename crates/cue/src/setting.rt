@@ -5,12 +5,11 @@ ghost use Rattle.words.specs.Words.{bytes_of, lay};
 ghost use Rattle.settable.specs.Values.{value_kind, value_word};
 ghost use Rattle.histories.specs.Plain.{can_set, value_checked};
 ghost use Rattle.laying.specs.Elements.{look, reworded as reworded_of, settable_kind};
+ghost use Rattle.cue.specs.Parties.{party_number};
 ghost use Rattle.cue.specs.Permits.{Permitted};
-ghost use Rattle.cue.specs.Rows.{Sound};
 
-use crate::choosing::allows;
-use crate::elements::settable_kind;
-use crate::parties::may_set;
+use crate::parties::Party;
+use crate::pod::Pod;
 use pods::Row;
 use refusals::Why;
 use settable::Value;
@@ -19,46 +18,42 @@ const ARRAY: u32 = 13;
 
 const CHOICE: u32 = 19;
 
-// Whether an element can be set: one below the count, and of a choice only the default.
-fn can_set(row: Row, element: usize) -> bool
-    ensures value { result ≡ can_set row element }
-    ensures few { result ≡ true → element < 2 ^ 32 }
-{
-    element < row.count as usize && (row.kind != CHOICE || element == 0)
-}
+impl Pod<'_> {
+    // Whether an element can be set: one below the count, and of a choice only the default.
+    fn can_set(self, element: usize) -> bool
+        ensures value { result ≡ can_set self.entry.row element }
+        ensures few { result ≡ true → element < 2 ^ 32 }
+    {
+        element < self.row.count as usize && (self.row.kind != CHOICE || element == 0)
+    }
 
-// The word to lay, which is the value's, or the first check of the value that refuses.
-pub fn checked(
-    bytes: &[u8],
-    row: Row,
-    party: u32,
-    element: usize,
-    value: Value,
-    word: Option<u64>,
-) -> Result<u64, Why>
-    requires sound { Sound bytes.now row }
-    requires word { word ≡ value_word value }
-    ensures { Permitted (value_checked (settable_kind row) party element value row (look bytes.now row)) value element result }
-{
-    let Some(kind) = settable_kind(row) else {
-        return Err(Why::NotSettable);
-    };
-    if kind.type_number() != value.kind().type_number() {
-        return Err(Why::OtherKind);
+    // The word to lay, which is the value's, or the first check of the value that refuses.
+    pub fn checked(
+        self,
+        party: Party,
+        element: usize,
+        value: Value,
+        word: Option<u64>,
+    ) -> Result<u64, Why>
+        requires { word ≡ value_word value }
+        ensures { Permitted (value_checked (settable_kind self.entry.row) (party_number party) element value self.entry.row (look self.entry.bytes.now self.entry.row)) value element result }
+    {
+        let kind = self.settable_kind().ok_or(Why::NotSettable)?;
+        if kind != value.kind() {
+            return Err(Why::OtherKind);
+        }
+        if !self.can_set(element) {
+            return Err(Why::NoElement);
+        }
+        if !party.may_set(self.row) {
+            return Err(Why::Locked);
+        }
+        let word = word.ok_or(Why::NotANumber)?;
+        if !self.allows(kind, word) {
+            return Err(Why::Forbidden);
+        }
+        Ok(word)
     }
-    if !can_set(row, element) {
-        return Err(Why::NoElement);
-    }
-    if !may_set(party, row) {
-        return Err(Why::Locked);
-    }
-    let Some(word) = word else {
-        return Err(Why::NotANumber);
-    };
-    if !allows(bytes, row, kind, word) {
-        return Err(Why::Forbidden);
-    }
-    Ok(word)
 }
 
 // Lays a value at a place.

@@ -1,24 +1,7 @@
-use Rattle.std.proofs.Common.{rules}
-use Rattle.cue.proofs.Standing.{sound_row, look_ok, look_out}
+use Rattle.cue.specs.Keeps.{held_of}
+use Rattle.cue.proofs.Standing.{looked_at}
 use Rattle.cue.proofs.held.Cue.look.Goals as goal
-
-pub returns-then-element-found : goal.returns-then-element-found
-returns-then-element-found c =
-    let cue = c.args.self.now in
-    let o = c.if-not-self.false in
-    look_out cue.bytes.now cue.rows.now cue.count (cue.whole o) (cue.stands o) cue.fits c.args.row c.if-row-self.false cue.opened o c.args.element c.if-element-found.true
-
-pub word_at-requires : goal.word_at-requires
-word_at-requires c =
-    let cue = c.args.self.now in
-    let o = c.if-not-self.false in
-    record {
-      few = search rules;
-      within = (sound_row cue.bytes.now cue.rows.now cue.count (cue.whole o) (cue.stands o) cue.fits c.args.row c.if-row-self.false).there c.args.element c.if-element-found.false;
-    }
 
 pub returns : goal.returns
 returns c =
-    let cue = c.args.self.now in
-    let o = c.if-not-self.false in
-    look_ok cue.bytes.now cue.rows.now cue.count (cue.whole o) (cue.stands o) cue.fits c.args.row c.if-row-self.false cue.opened o c.args.element c.word_at.result c.if-element-found.false c.word_at.ensures
+    looked_at (held_of c.args.self.now) c.in_ok-opened.field-0 c.in_ok-opened.ensures c.args.row c.in_ok-pod.field-0 c.in_ok-pod.ensures c.args.element c.look.result c.look.ensures
