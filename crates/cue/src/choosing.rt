@@ -6,10 +6,8 @@ ghost use Rattle.settable.specs.Order.{at_most};
 
 use crate::pod::Pod;
 use kinds::Kind;
-use pods::ChoiceType;
+use pods::{ChoiceType, PodType};
 use settable::at_most;
-
-const CHOICE: u32 = 19;
 
 impl Pod<'_> {
     // Whether a word is that of an alternative, which are the values after the default.
@@ -32,10 +30,10 @@ impl Pod<'_> {
     pub fn allows(self, kind: Kind, word: u64) -> bool
         ensures { result ≡ row_allows self.entry.row kind (look self.entry.bytes.now self.entry.row) word }
     {
-        if self.row.kind != CHOICE {
+        if !self.is(PodType::Choice) {
             return true;
         }
-        let Some(choice) = ChoiceType::from_number(self.row.side) else {
+        let Ok(choice) = ChoiceType::try_from(self.row.side) else {
             return true;
         };
         match choice {

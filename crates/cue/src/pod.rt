@@ -1,20 +1,13 @@
 // A pod of an open cue: where its elements stand, and what they say.
-ghost use Rattle.std.specs.Prelude.{◌≡◌, ◌+◌, ◌^◌, ◌<◌, ◌≤◌, length, drop};
+ghost use Rattle.std.specs.Prelude.{◌≡◌, ◌==◌, ◌+◌, ◌^◌, ◌<◌, ◌≤◌, length, drop};
 ghost use Rattle.kinds.specs.Kinds.{kind_of};
-ghost use Rattle.laying.specs.Elements.{bytes_by, element_place, element_size, first_place, look, settable_kind, settable_type, word_by};
+ghost use Rattle.pods.specs.Types.{type_number};
+ghost use Rattle.laying.specs.Elements.{bytes_by, element_place, element_size, first_place, has_bytes, has_values, look, settable_kind, settable_type, word_by};
 ghost use Rattle.cue.specs.Rows.{looked, Sound};
 
 use kinds::Kind;
-use pods::Row;
+use pods::{PodType, Row};
 use refusals::Why;
-
-const TEXT: u32 = 8;
-
-const BYTES: u32 = 9;
-
-const ARRAY: u32 = 13;
-
-const CHOICE: u32 = 19;
 
 // The bytes of the cue, and the pod's row.
 #[derive(Clone, Copy)]
@@ -25,16 +18,39 @@ pub struct Pod<'b> {
 }
 
 impl Pod<'_> {
+    // Whether the pod is of a type.
+    pub fn is(self, kind: PodType) -> bool
+        ensures { result ≡ self.entry.row.kind == type_number kind }
+    {
+        self.row.kind == u32::from(kind)
+    }
+
+    // Whether its elements are its bytes.
+    fn has_bytes(self) -> bool
+        ensures { result ≡ has_bytes self.entry.row }
+    {
+        self.is(PodType::Text) || self.is(PodType::Raw)
+    }
+
+    // Whether its elements are values of the child's type.
+    fn has_values(self) -> bool
+        ensures { result ≡ has_values self.entry.row }
+    {
+        self.is(PodType::Array) || self.is(PodType::Choice)
+    }
+
     // Where the first element stands: after the header, and in an array or choice after what is said of its values.
     fn first_place(self) -> usize
         ensures value { result ≡ first_place self.entry.row }
         ensures low { result < 2 ^ 33 }
     {
         let place = self.row.place as usize;
-        match self.row.kind {
-            ARRAY => place + 16,
-            CHOICE => place + 24,
-            _ => place + 8,
+        if self.is(PodType::Array) {
+            place + 16
+        } else if self.is(PodType::Choice) {
+            place + 24
+        } else {
+            place + 8
         }
     }
 
@@ -42,10 +58,12 @@ impl Pod<'_> {
     fn element_size(self) -> usize
         ensures { result ≡ element_size self.entry.row }
     {
-        match self.row.kind {
-            TEXT | BYTES => 1,
-            ARRAY | CHOICE => size_of_type(self.row.child),
-            kind => size_of_type(kind),
+        if self.has_bytes() {
+            1
+        } else if self.has_values() {
+            size_of_type(self.row.child)
+        } else {
+            size_of_type(self.row.kind)
         }
     }
 
@@ -62,7 +80,7 @@ impl Pod<'_> {
         requires { at + bytes_by (kind_of self.row.child) ≤ length self.bytes.now }
         ensures { result ≡ word_by (kind_of self.entry.row.child) (drop at self.entry.bytes.now) }
     {
-        let Some(kind) = Kind::from_type(self.row.child) else {
+        let Ok(kind) = Kind::try_from(self.row.child) else {
             return 0;
         };
         kind.word(&self.bytes[at..]).unwrap_or(0)
@@ -73,10 +91,12 @@ impl Pod<'_> {
         requires { element < self.row.count }
         ensures { result ≡ look self.entry.bytes.now self.entry.row element }
     {
-        match self.row.kind {
-            TEXT | BYTES => u64::from(self.bytes[self.element_place(element)]),
-            ARRAY | CHOICE => self.value_at(self.element_place(element)),
-            _ => self.row.word,
+        if self.has_bytes() {
+            u64::from(self.bytes[self.element_place(element)])
+        } else if self.has_values() {
+            self.value_at(self.element_place(element))
+        } else {
+            self.row.word
         }
     }
 
@@ -102,12 +122,14 @@ impl Pod<'_> {
 fn size_of_type(number: u32) -> usize
     ensures { result ≡ bytes_by (kind_of number) }
 {
-    Kind::from_type(number).map_or(0, Kind::size)
+    Kind::try_from(number).map_or(0, Kind::size)
 }
 
 // The kind of a type whose values can be set: any but None.
 fn settable_type(number: u32) -> Option<Kind>
     ensures { result ≡ settable_type number }
 {
-    Kind::from_type(number).filter(|kind| *kind != Kind::None)
+    Kind::try_from(number)
+        .ok()
+        .filter(|kind| *kind != Kind::None)
 }

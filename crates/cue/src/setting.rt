@@ -10,13 +10,9 @@ ghost use Rattle.cue.specs.Permits.{Permitted};
 
 use crate::parties::Party;
 use crate::pod::Pod;
-use pods::Row;
+use pods::{PodType, Row};
 use refusals::Why;
 use settable::Value;
-
-const ARRAY: u32 = 13;
-
-const CHOICE: u32 = 19;
 
 impl Pod<'_> {
     // Whether an element can be set: one below the count, and of a choice only the default.
@@ -24,7 +20,7 @@ impl Pod<'_> {
         ensures value { result ≡ can_set self.entry.row element }
         ensures few { result ≡ true → element < 2 ^ 32 }
     {
-        element < self.row.count as usize && (self.row.kind != CHOICE || element == 0)
+        element < self.row.count as usize && (!self.is(PodType::Choice) || element == 0)
     }
 
     // The word to lay, which is the value's, or the first check of the value that refuses.
@@ -68,7 +64,7 @@ pub fn lay_at(bytes: &mut [u8], at: usize, value: Value)
 pub fn reworded(row: Row, word: u64) -> Row
     ensures { result ≡ reworded_of row word }
 {
-    if row.kind == ARRAY {
+    if row.kind == u32::from(PodType::Array) {
         return row;
     }
     Row { word, ..row }
