@@ -1,5 +1,9 @@
+use Rattle.std.proofs.Common.{◌≡◌, rules}
 use Rattle.cue.proofs.Reading.{limits}
 use Rattle.cue.proofs.pod.Pod.allows.Goals as goal
 
 pub between-requires : goal.between-requires
-between-requires c = limits c.args.self.bytes.now c.args.self.row c.in-Some.choice c.args.self.sound c.if-self-ne-CHOICE.false c.in-Some.ensures c.in-Range.is
+between-requires c =
+    let pod = c.args.self in
+    let choice : pod.row.kind ≡ 19 = search rules in
+    limits pod.bytes.now pod.row c.in-Ok.choice pod.sound choice c.in-Ok.ensures c.in-Range.is
