@@ -35,13 +35,13 @@ record Full (o : Outcome Tree) (table : List Row) (found : Surveyed) : Type 0 wh
   room : length (rows_said o) ≤ length table
 
 full : (o : Outcome Tree) (table : List Row) (found : Surveyed) → Ok found ≡ (filled_by o table).0 → Full o table found
-full (refused e) table found h = let z : ◌≡◌ {A = ℕ} 0 1 = cc in absurd (omega arith)
+full (refused e) table found h = absurd (cc)
 full (gave t used) table found h = by (ltb (length table) (length (rows_in t))) refl h
   where
     by : (b : Bool) → ltb (length table) (length (rows_in t)) ≡ b
         → Ok found ≡ (cond {A = Result Surveyed Refusal × List Row} b (Err (record { why = TooManyRows; spot = spot_at 0 1 }), table) (Ok (record { rows = length (rows_in t); used = used }), rows_in t ++ drop (length (rows_in t)) table)).0
         → Full (gave t used) table found
-    by true e h = let z : ◌≡◌ {A = ℕ} 0 1 = cc in absurd (omega arith)
+    by true e h = absurd (cc)
     by false e h =
         let same : Ok found ≡ Ok (record { rows = length (rows_in t); used = used }) = h in
         let is : found ≡ record { rows = length (rows_in t); used = used } = cc in
@@ -64,7 +64,7 @@ not_filled (gave t used) table e h = by (ltb (length table) (length (rows_in t))
     by : (b : Bool) → ltb (length table) (length (rows_in t)) ≡ b
         → Err e ≡ (cond {A = Result Surveyed Refusal × List Row} b (Err (record { why = TooManyRows; spot = spot_at 0 1 }), table) (Ok (record { rows = length (rows_in t); used = used }), rows_in t ++ drop (length (rows_in t)) table)).0
         → Left (gave t used) table
-    by false z h = let z' : ◌≡◌ {A = ℕ} 0 1 = cc in absurd (omega arith)
+    by false z h = absurd (cc)
     by true z h =
         record {
           table_is = ap (λ b. (cond {A = Result Surveyed Refusal × List Row} b (Err (record { why = TooManyRows; spot = spot_at 0 1 }), table) (Ok (record { rows = length (rows_in t); used = used }), rows_in t ++ drop (length (rows_in t)) table)).1) z;
@@ -101,7 +101,7 @@ unfolding accepts rows_of
 shut bytes table new e h is =
     let f = not_filled (says bytes) table e h in
     record {
-      stands = λ n e. (let z : ◌≡◌ {A = ℕ} 0 1 = cc in absurd (omega arith));
+      stands = λ n e. absurd (cc);
       held = (λ j. record { bytes = bytes; rows = (is ∙ f.table_is) j; count = 0; opened = false })
           ∙ sym (ap (λ b. cond b (record { bytes = bytes; rows = filled bytes table; count = length (rows_of bytes); opened = true }) (record { bytes = bytes; rows = table; count = 0; opened = false })) f.no_room);
     }
@@ -147,7 +147,7 @@ refilled bytes table new count r st h is =
     }
   where
     by : (o : Outcome Tree) → is_given o ≡ true → rows_said o ≡ take count table → (filled_by o table).1 ≡ rows_said o ++ drop (length (rows_said o)) table
-    by (refused e) ok st' = let z : ◌≡◌ {A = ℕ} 0 1 = cc in absurd (omega arith)
+    by (refused e) ok st' = absurd (cc)
     by (gave t used) ok st' =
         ap (λ b. (cond {A = Result Surveyed Refusal × List Row} b (Err (record { why = TooManyRows; spot = spot_at 0 1 }), table) (Ok (record { rows = length (rows_in t); used = used }), rows_in t ++ drop (length (rows_in t)) table)).1)
         (le-ltb (length table) (length (rows_in t)) (omega (arith, ap length st', length-take-le count table st.fits)))

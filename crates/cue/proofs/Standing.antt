@@ -16,7 +16,7 @@ use Rattle.laying.proofs.Accepted.{accepted as read_within}
 use Rattle.laying.proofs.Apart.{elements_apart}
 use Rattle.laying.proofs.Looks.{looks_stand}
 use Rattle.histories.specs.Cues.{accepts, rows_of, word_of}
-use Rattle.histories.specs.Held.{Held, Looked}
+use Rattle.histories.specs.Held.{Held, IsValue, Looked}
 use Rattle.histories.specs.Parties.{known}
 use Rattle.histories.specs.Plain.{look_by, set_by, unless, value_checked}
 use Rattle.histories.proofs.Alike.{value_same, row_allows_same}
@@ -24,15 +24,16 @@ use Rattle.histories.proofs.Asking.{set_accepted}
 use Rattle.histories.proofs.Enough.{enough}
 use Rattle.histories.proofs.Framing.{Framed, framed, framed_within}
 use Rattle.histories.proofs.Saying.{accepted_says, rows_said_lem, word_said_lem}
+use Rattle.cue.specs.declared.held.Cue.{Cue}
 use Rattle.cue.specs.declared.opened.Opened.{Opened}
 use Rattle.cue.specs.declared.parties.Party.{Party}
 use Rattle.cue.specs.declared.parties.Party.TheVariants.{Rigging, StageManagement}
 use Rattle.cue.specs.declared.pod.Pod.{Pod}
-use Rattle.cue.specs.Found.{Found}
-use Rattle.cue.specs.Keeps.{Opens}
+use Rattle.cue.specs.Keeps.{held_of, Opens}
 use Rattle.cue.specs.Parties.{party_number, IsParty}
-use Rattle.cue.specs.Permits.{Permitted, set_answer}
-use Rattle.cue.specs.Rows.{looked, Sound, Stands}
+use Rattle.cue.specs.Permits.{CanLay, Permitted, set_answer}
+use Rattle.cue.specs.Pods.{Found, looked, set_checked}
+use Rattle.cue.specs.Rows.{Sound, Stands}
 
 -- ---- the rows of bytes that a survey accepts
 
@@ -61,13 +62,13 @@ module _ (bytes : List ℕ) (whole : accepts bytes ≡ true) (i : ℕ) (lt : i <
       ∙ (looks_stand bytes s.tree s.used s.is i e (omega (arith, lt, ap length said)) (omega (arith, h, ap (λ r. r.count) row))).answer
       ∙ sym (word_said_lem bytes s.tree s.used s.is i e)
 
-  looked_here : (e : ℕ) → looked bytes (row_at (rows_of bytes) i) e ≡ look_by (rows_of bytes) (word_of bytes) i e
+  looked_here : (e : ℕ) → unless (ltb e (row_at (rows_of bytes) i).count) NoElement (Ok (look bytes (row_at (rows_of bytes) i) e)) ≡ look_by (rows_of bytes) (word_of bytes) i e
   looked_here e = by (ltb e count) refl ∙ sym (ap (λ b. unless b NoRow (unless (ltb e count) NoElement (Ok (word_of bytes i e)))) there)
     where
       count : ℕ
       count = (row_at (rows_of bytes) i).count
 
-      by : (b : Bool) → ltb e count ≡ b → looked bytes (row_at (rows_of bytes) i) e ≡ unless (ltb e count) NoElement (Ok (word_of bytes i e))
+      by : (b : Bool) → ltb e count ≡ b → unless (ltb e count) NoElement (Ok (look bytes (row_at (rows_of bytes) i) e)) ≡ unless (ltb e count) NoElement (Ok (word_of bytes i e))
       by true z = ap (λ w. unless (ltb e count) NoElement (Ok w)) (look_here e (ltb-true e count z))
       by false z = ap (λ b. unless b NoElement (Ok (look bytes (row_at (rows_of bytes) i) e))) z ∙ sym (ap (λ b. unless b NoElement (Ok (word_of bytes i e))) z)
 
@@ -93,13 +94,13 @@ module _ (h : Held) (o : Opened) (here : Opens h (Ok o)) where
   answered f x y is = is ∙ ap f here.1 ∙ sym (ap (λ b. cond b (f h.bytes) y) here.0)
 
   module _ (i : ℕ) (p : Pod) (found : Found o.bytes.now i (Ok p)) where
-    pub looked_at : (e : ℕ) (a : Result ℕ Why) → a ≡ looked p.bytes.now p.row e → Looked h i e a
+    pub looked_at : (e : ℕ) (a : Result ℕ Why) → a ≡ looked p e → Looked h i e a
     looked_at e a is =
         answered (λ b. look_by (rows_of b) (word_of b) i e) a (Err Shut)
-        (is ∙ ap (λ b. looked b p.row e) found.2 ∙ ap (λ r. looked o.bytes.now r e) found.1 ∙ looked_here o.bytes.now o.whole i found.0 e)
+        (is ∙ ap (λ b. unless (ltb e p.row.count) NoElement (Ok (look b p.row e))) found.2 ∙ ap (λ r. unless (ltb e r.count) NoElement (Ok (look o.bytes.now r e))) found.1 ∙ looked_here o.bytes.now o.whole i found.0 e)
 
     pub checked_at : (n : ℕ) (party : Party) (e : ℕ) (v : Value) (r : Result ℕ Why) → IsParty n (Ok party)
-        → Permitted (value_checked (settable_kind p.row) (party_number party) e v p.row (look p.bytes.now p.row)) v e r → Permitted (set_answer h n i e v) v e r
+        → Permitted (set_checked p party e v) v e r → Permitted (set_answer h n i e v) v e r
     checked_at n party e v r number permitted =
         let m = party_number party in
         let f : List ℕ → Result (Unit {0}) Why = λ b. set_by (rows_of b) (word_of b) n i e v in
@@ -113,12 +114,15 @@ module _ (h : Held) (o : Opened) (here : Opens h (Ok o)) where
 -- ---- a table whose first rows stand
 
 -- how many rows stand of an open cue
-pub count_is : (s : Option ℕ) → is_some s ≡ true → s ≡ Some (unwrap_or s 0)
-count_is None h = let z : ◌≡◌ {A = ℕ} 0 1 = cc in absurd (omega arith)
+count_is : (s : Option ℕ) → is_some s ≡ true → s ≡ Some (unwrap_or s 0)
+count_is None h = cc
 count_is (Some n) h = refl
 
 pub count_of : (s : Option ℕ) (n : ℕ) → s ≡ Some n → unwrap_or s 0 ≡ n
 count_of s n is = ap (λ x. unwrap_or x 0) is
+
+pub stands_open : (c : Cue) → (held_of c).opened ≡ true → Stands c.bytes.now c.rows.now (unwrap_or c.standing 0)
+stands_open c h = c.stands (unwrap_or c.standing 0) (count_is c.standing h)
 
 module _ (bytes : List ℕ) (rows : List Row) (count : ℕ) (stands : Stands bytes rows count) (i : ℕ) (lt : i < count) where
   in_rows : i < length (rows_of bytes)
@@ -157,15 +161,19 @@ module _ (bytes : List ℕ) (rows : List Row) (count : ℕ) (stands : Stands byt
 
 accepted_open : (o : Bool) (x : Result (Unit {0}) Why) → cond o x (Err Shut) ≡ Ok tt → (o ≡ true) × (x ≡ Ok tt)
 accepted_open true x e = (refl, e)
-accepted_open false x e = let z : ◌≡◌ {A = ℕ} 0 1 = cc in absurd (omega arith)
+accepted_open false x e = absurd (cc)
 
-pub set_settable : (bytes : List ℕ) (rows : List Row) (s : Option ℕ) (p i e : ℕ) (v : Value)
-    → ((n : ℕ) → s ≡ Some n → Stands bytes rows n) → cond (is_some s) (set_by (rows_of bytes) (word_of bytes) p i e v) (Err Shut) ≡ Ok tt
-    → (is_some s ≡ true) × (i < unwrap_or s 0) × Settable (row_at rows i) e (value_kind v)
-set_settable bytes rows s p i e v stands h =
-    let a = accepted_open (is_some s) (set_by (rows_of bytes) (word_of bytes) p i e v) h in
-    let count = unwrap_or s 0 in
-    let st = stands count (count_is s a.0) in
-    let q = set_accepted (rows_of bytes) (word_of bytes) p i e v tt a.1 in
-    let lt : i < count = omega (arith, q.0, ap length st.same, length-take-le count rows st.fits) in
-    (a.0, lt, subst (λ r. Settable r e (value_kind v)) (sym (row_here bytes rows count st i lt)) q.1.settable)
+pub can_lay : (h : Held) (p i e : ℕ) (v : Value) (w : ℕ) → (h.opened ≡ true → Stands h.bytes h.rows h.count) → IsValue v → Permitted (set_answer h p i e v) v e (Ok w) → CanLay h i e v w
+can_lay h p i e v w stands value ok =
+    let a = accepted_open h.opened (set_by (rows_of h.bytes) (word_of h.bytes) p i e v) ok.0 in
+    let st = stands a.0 in
+    let q = set_accepted (rows_of h.bytes) (word_of h.bytes) p i e v tt a.1 in
+    let lt : i < h.count = omega (arith, q.0, ap length st.same, length-take-le h.count h.rows st.fits) in
+    record {
+      opened = a.0;
+      there = lt;
+      settable = subst (λ r. Settable r e (value_kind v)) (sym (row_here h.bytes h.rows h.count st i lt)) q.1.settable;
+      few = ok.2;
+      word = ok.1;
+      fits = value w ok.1;
+    }

@@ -1,6 +1,6 @@
 pub mod Checks
 pub mod Rows
-pub mod Found
 pub mod Parties
+pub mod Pods
 pub mod Keeps
 pub mod Permits

@@ -1,12 +1,9 @@
 // The calls on a held cue.
-ghost use Rattle.std.specs.Prelude.{◌≡◌, ◌^◌, ◌<◌, true, List, None as Nothing, Some as There};
-ghost use Rattle.settable.specs.Values.{value_kind, value_word};
-ghost use Rattle.format.specs.Places.{row_at};
-ghost use Rattle.laying.specs.Elements.{IsWord, Settable};
+ghost use Rattle.std.specs.Prelude.{◌≡◌, true, List, None as Nothing};
 ghost use Rattle.tours.specs.Told.{Thing};
-ghost use Rattle.histories.specs.Held.{holding, refilled as refilled_of, relaid as relaid_of, Looked, TouredBytes, TouredRows, WasReread, WasSet};
+ghost use Rattle.histories.specs.Held.{holding, refilled as refilled_of, relaid as relaid_of, IsValue, Looked, TouredBytes, TouredRows, WasReread, WasSet};
 ghost use Rattle.histories.specs.Histories.{Life};
-ghost use Rattle.cue.specs.Permits.{Permitted, set_answer};
+ghost use Rattle.cue.specs.Permits.{CanLay, Permitted, set_answer};
 ghost use Rattle.cue.specs.Keeps.{held_of, Lent, Opens, standing_of, why_of};
 
 use crate::held::Cue;
@@ -58,25 +55,18 @@ impl<'a> Cue<'a> {
         ensures was { WasSet (held_of self.old) party row element value result (held_of self.new) }
         ensures lent { Lent self.old self.new }
     {
-        let word = value.word();
-        let word = self.permitted(party, row, element, value, word)?;
+        let word = self.permitted(party, row, element, value)?;
         let cue = replace(self, none());
         *self = cue.relaid(row, element, value, word);
         Ok(())
     }
 
     // The word to lay, which is the value's, or the first check that refuses.
-    fn permitted(
-        &self,
-        party: u32,
-        row: usize,
-        element: usize,
-        value: Value,
-        word: Option<u64>,
-    ) -> Result<u64, Why>
-        requires { word ≡ value_word value }
-        ensures { Permitted (set_answer (held_of self.now) party row element value) value element result }
+    fn permitted(&self, party: u32, row: usize, element: usize, value: Value) -> Result<u64, Why>
+        ensures value { IsValue value }
+        ensures answer { Permitted (set_answer (held_of self.now) party row element value) value element result }
     {
+        let word = value.word();
         let cue = self.opened()?;
         let party = Party::try_from(party)?;
         cue.pod(row)?.checked(party, element, value, word)
@@ -84,12 +74,7 @@ impl<'a> Cue<'a> {
 
     // The cue with a value laid at an element, and its row updated.
     fn relaid(self, row: usize, element: usize, value: Value, word: u64) -> Cue<'a>
-        requires open { (held_of self).opened ≡ true }
-        requires there { row < (held_of self).count }
-        requires settable { Settable (row_at self.rows.now row) element (value_kind value) }
-        requires few { element < 2 ^ 32 }
-        requires word { value_word value ≡ There word }
-        requires fits { IsWord (value_kind value) word }
+        requires { CanLay (held_of self) row element value word }
         ensures was { held_of result ≡ relaid_of (held_of self.entry) row element value }
         ensures lent { Lent self.entry result }
     {

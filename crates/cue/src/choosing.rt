@@ -1,8 +1,6 @@
 // What a choice allows.
-ghost use Rattle.std.specs.Prelude.{◌≡◌, pred, ◌≤◌, ◌&&◌};
-ghost use Rattle.histories.specs.Choosing.{among as among_of, row_allows};
-ghost use Rattle.laying.specs.Elements.{look};
-ghost use Rattle.settable.specs.Order.{at_most};
+ghost use Rattle.std.specs.Prelude.{◌≡◌, ◌≤◌};
+ghost use Rattle.cue.specs.Pods.{is_allowed, is_among, is_between};
 
 use crate::pod::Pod;
 use kinds::Kind;
@@ -12,7 +10,7 @@ use settable::at_most;
 impl Pod<'_> {
     // Whether a word is that of an alternative, which are the values after the default.
     fn among(self, word: u64) -> bool
-        ensures { result ≡ among_of (pred self.entry.row.count) (look self.entry.bytes.now self.entry.row) word }
+        ensures { result ≡ is_among self.entry word }
     {
         (1..self.row.count).any(|i| self.word_at(i as usize) == word)
     }
@@ -20,7 +18,7 @@ impl Pod<'_> {
     // Whether a word lies between the two values after the default.
     fn between(self, kind: Kind, word: u64) -> bool
         requires { 3 ≤ self.row.count }
-        ensures { result ≡ at_most kind (look self.entry.bytes.now self.entry.row 1) word && at_most kind word (look self.entry.bytes.now self.entry.row 2) }
+        ensures { result ≡ is_between self.entry kind word }
     {
         at_most(kind, self.word_at(1), word) && at_most(kind, word, self.word_at(2))
     }
@@ -28,7 +26,7 @@ impl Pod<'_> {
     // Whether a word is allowed as the pod's value; what is no choice allows all.
     #[tactic(auto, unfolding(histories::specs::Choosing::row_allows))]
     pub fn allows(self, kind: Kind, word: u64) -> bool
-        ensures { result ≡ row_allows self.entry.row kind (look self.entry.bytes.now self.entry.row) word }
+        ensures { result ≡ is_allowed self.entry kind word }
     {
         if !self.is(PodType::Choice) {
             return true;

@@ -4,6 +4,7 @@
 mod calls;
 mod checking;
 mod choosing;
+mod elements;
 mod held;
 mod opened;
 mod parties;

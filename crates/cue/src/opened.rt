@@ -1,7 +1,7 @@
 // An open cue.
 ghost use Rattle.std.specs.Prelude.{◌≡◌, true};
 ghost use Rattle.histories.specs.Cues.{accepts, rows_of};
-ghost use Rattle.cue.specs.Found.{Found};
+ghost use Rattle.cue.specs.Pods.{Found};
 
 use crate::pod::Pod;
 use pods::Row;

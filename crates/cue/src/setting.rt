@@ -3,10 +3,10 @@ ghost use Rattle.std.specs.Prelude.{◌≡◌, ℕ, ◌+◌, ◌^◌, ◌<◌, �
 ghost use Rattle.kinds.specs.Kinds.{size_of};
 ghost use Rattle.words.specs.Words.{bytes_of, lay};
 ghost use Rattle.settable.specs.Values.{value_kind, value_word};
-ghost use Rattle.histories.specs.Plain.{can_set, value_checked};
-ghost use Rattle.laying.specs.Elements.{look, reworded as reworded_of, settable_kind};
-ghost use Rattle.cue.specs.Parties.{party_number};
+ghost use Rattle.histories.specs.Plain.{can_set};
+ghost use Rattle.laying.specs.Elements.{reworded as reworded_of};
 ghost use Rattle.cue.specs.Permits.{Permitted};
+ghost use Rattle.cue.specs.Pods.{set_checked};
 
 use crate::parties::Party;
 use crate::pod::Pod;
@@ -32,7 +32,7 @@ impl Pod<'_> {
         word: Option<u64>,
     ) -> Result<u64, Why>
         requires { word ≡ value_word value }
-        ensures { Permitted (value_checked (settable_kind self.entry.row) (party_number party) element value self.entry.row (look self.entry.bytes.now self.entry.row)) value element result }
+        ensures { Permitted (set_checked self.entry party element value) value element result }
     {
         let kind = self.settable_kind().ok_or(Why::NotSettable)?;
         if kind != value.kind() {
