@@ -27,6 +27,11 @@ use Rattle.cue.specs.Rows.{Stands}
 use Rattle.histories.specs.Cues.{is_given, rows_said, accepts, rows_of}
 use Rattle.histories.specs.Held.{Held, holding, filled}
 
+-- what filling comes to where the table is full, or is not
+abbrev filled_if : (full : Bool) → (t : Tree) (used : ℕ) → List Row → Result Surveyed Refusal × List Row
+filled_if full t used table =
+    cond full (Err (record { why = TooManyRows; spot = spot_at 0 1 }), table) (Ok (record { rows = length (rows_in t); used = used }), rows_in t ++ drop (length (rows_in t)) table)
+
 -- a table that was filled
 record Full (o : Outcome Tree) (table : List Row) (found : Surveyed) : Type 0 where
   is_given_lem : is_given o ≡ true
@@ -39,7 +44,7 @@ full (refused e) table found h = absurd (cc)
 full (gave t used) table found h = by (ltb (length table) (length (rows_in t))) refl h
   where
     by : (b : Bool) → ltb (length table) (length (rows_in t)) ≡ b
-        → Ok found ≡ (cond {A = Result Surveyed Refusal × List Row} b (Err (record { why = TooManyRows; spot = spot_at 0 1 }), table) (Ok (record { rows = length (rows_in t); used = used }), rows_in t ++ drop (length (rows_in t)) table)).0
+        → Ok found ≡ (filled_if b t used table).0
         → Full (gave t used) table found
     by true e h = absurd (cc)
     by false e h =
@@ -48,7 +53,7 @@ full (gave t used) table found h = by (ltb (length table) (length (rows_in t))) 
         record {
           is_given_lem = refl;
           rows_are = ap (λ s. s.rows) is;
-          table_is = ap (λ b. (cond {A = Result Surveyed Refusal × List Row} b (Err (record { why = TooManyRows; spot = spot_at 0 1 }), table) (Ok (record { rows = length (rows_in t); used = used }), rows_in t ++ drop (length (rows_in t)) table)).1) e;
+          table_is = ap (λ b. (filled_if b t used table).1) e;
           room = ltb-false (length table) (length (rows_in t)) e;
         }
 
@@ -62,16 +67,20 @@ not_filled (refused x) table e h = record { table_is = refl; no_room = refl }
 not_filled (gave t used) table e h = by (ltb (length table) (length (rows_in t))) refl h
   where
     by : (b : Bool) → ltb (length table) (length (rows_in t)) ≡ b
-        → Err e ≡ (cond {A = Result Surveyed Refusal × List Row} b (Err (record { why = TooManyRows; spot = spot_at 0 1 }), table) (Ok (record { rows = length (rows_in t); used = used }), rows_in t ++ drop (length (rows_in t)) table)).0
+        → Err e ≡ (filled_if b t used table).0
         → Left (gave t used) table
     by false z h = absurd (cc)
     by true z h =
         record {
-          table_is = ap (λ b. (cond {A = Result Surveyed Refusal × List Row} b (Err (record { why = TooManyRows; spot = spot_at 0 1 }), table) (Ok (record { rows = length (rows_in t); used = used }), rows_in t ++ drop (length (rows_in t)) table)).1) z;
+          table_is = ap (λ b. (filled_if b t used table).1) z;
           no_room = lt-leb (length (rows_in t)) (length table) (ltb-true (length table) (length (rows_in t)) z);
         }
 
 -- ---- held open, or shut
+
+abbrev held_if : Bool → List ℕ → List Row → Held
+held_if fits bytes table =
+    cond fits (record { bytes = bytes; rows = filled bytes table; count = length (rows_of bytes); opened = true }) (record { bytes = bytes; rows = table; count = 0; opened = false })
 
 pub record Newly (bytes : List ℕ) (table new : List Row) (standing : Option ℕ) : Type 0 where
   pub stands : (n : ℕ) → standing ≡ Some n → Stands bytes new n
@@ -93,7 +102,7 @@ opened bytes table new found h is =
     record {
       stands = λ n e. (let same : found.rows ≡ n = cc in subst (Stands bytes new) same st);
       held = (λ j. record { bytes = bytes; rows = new_is j; count = f.rows_are j; opened = true })
-          ∙ sym (ap (λ b. cond b (record { bytes = bytes; rows = filled bytes table; count = length (rows_of bytes); opened = true }) (record { bytes = bytes; rows = table; count = 0; opened = false })) open');
+          ∙ sym (ap (λ b. held_if b bytes table) open');
     }
 
 shut : (bytes : List ℕ) (table new : List Row) (e : Refusal) → Err e ≡ (filled_by (says bytes) table).0 → new ≡ (filled_by (says bytes) table).1 → Newly bytes table new None
@@ -103,7 +112,7 @@ shut bytes table new e h is =
     record {
       stands = λ n e. absurd (cc);
       held = (λ j. record { bytes = bytes; rows = (is ∙ f.table_is) j; count = 0; opened = false })
-          ∙ sym (ap (λ b. cond b (record { bytes = bytes; rows = filled bytes table; count = length (rows_of bytes); opened = true }) (record { bytes = bytes; rows = table; count = 0; opened = false })) f.no_room);
+          ∙ sym (ap (λ b. held_if b bytes table) f.no_room);
     }
 
 pub newly : (bytes : List ℕ) (table new : List Row) (r : Result Surveyed Refusal) → r ≡ (filled_by (says bytes) table).0 → new ≡ (filled_by (says bytes) table).1
@@ -149,5 +158,5 @@ refilled bytes table new count r st h is =
     by : (o : Outcome Tree) → is_given o ≡ true → rows_said o ≡ take count table → (filled_by o table).1 ≡ rows_said o ++ drop (length (rows_said o)) table
     by (refused e) ok st' = absurd (cc)
     by (gave t used) ok st' =
-        ap (λ b. (cond {A = Result Surveyed Refusal × List Row} b (Err (record { why = TooManyRows; spot = spot_at 0 1 }), table) (Ok (record { rows = length (rows_in t); used = used }), rows_in t ++ drop (length (rows_in t)) table)).1)
+        ap (λ b. (filled_if b t used table).1)
         (le-ltb (length table) (length (rows_in t)) (omega (arith, ap length st', length-take-le count table st.fits)))
