@@ -10,7 +10,7 @@ use crate::held::Cue;
 use crate::opened::Opened;
 use crate::parties::Party;
 use crate::pod::Pod;
-use crate::setting::{lay_at, reworded};
+use crate::setting::lay_at;
 use pods::Row;
 use refusals::Why;
 use settable::Value;
@@ -83,11 +83,13 @@ impl<'a> Cue<'a> {
             rows,
             standing,
         } = self;
-        let found = rows[row];
-        let pod = Pod { bytes, row: found };
+        let pod = Pod {
+            bytes,
+            row: rows[row],
+        };
         let at = pod.element_place(element);
+        rows[row] = pod.reworded(word);
         lay_at(bytes, at, value);
-        rows[row] = reworded(found, word);
         Cue {
             bytes,
             rows,

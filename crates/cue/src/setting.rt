@@ -50,6 +50,16 @@ impl Pod<'_> {
         }
         Ok(word)
     }
+
+    // The row once the value is set: an array's values are not in its row.
+    pub fn reworded(self, word: u64) -> Row
+        ensures { result ≡ reworded_of self.entry.row word }
+    {
+        if self.is(PodType::Array) {
+            return self.row;
+        }
+        Row { word, ..self.row }
+    }
 }
 
 // Lays a value at a place.
@@ -58,14 +68,4 @@ pub fn lay_at(bytes: &mut [u8], at: usize, value: Value)
     ensures { (w : ℕ) → value_word value ≡ There w → bytes.new ≡ lay at (bytes_of (size_of (value_kind value)) w) bytes.old }
 {
     let _ = value.serialize_body(&mut bytes[at..]);
-}
-
-// A row whose value was set: an array's values are not in its row.
-pub fn reworded(row: Row, word: u64) -> Row
-    ensures { result ≡ reworded_of row word }
-{
-    if row.kind == u32::from(PodType::Array) {
-        return row;
-    }
-    Row { word, ..row }
 }
