@@ -1,26 +1,13 @@
--- The bytes of a word, laid at the front of a body. Assumes nothing.
+-- A body in which a word was laid. Assumes nothing.
 use Rattle.std.proofs.Common.{◌≡◌, ℕ, ◌^◌, ◌<◌, ◌≤◌, Bool, true, false, cond, ltb, List, length, IfOk, IfSome, Some, None as no_word, Ok, Err, Option, Result, sym, refl, ap, ◌∙◌, subst, arith, ltb-false, le-ltb}
 use Rattle.refusals.specs.declared.Why.{Why}
 use Rattle.refusals.specs.declared.Why.TheVariants.{Missing}
 use Rattle.kinds.specs.declared.kind.Kind.{Kind}
-use Rattle.kinds.specs.declared.kind.Kind.TheVariants.{None, Bool as BoolKind, Id, Int, Long, Float, Double, Rectangle, Fraction, Fd}
 use Rattle.kinds.specs.Bodies.{body_read}
 use Rattle.kinds.specs.Kinds.{size_of, said, word_of}
 use Rattle.words.specs.Words.{bytes_of, lay}
 use Rattle.words.proofs.Laying.{length_bytes, length_lay, lay_word_lem}
 use Rattle.settable.specs.Laying.{lay_answer, lay_body}
-
-pub at_most_eight : (k : Kind) → size_of k ≤ 8
-at_most_eight None = omega arith
-at_most_eight BoolKind = omega arith
-at_most_eight Id = omega arith
-at_most_eight Int = omega arith
-at_most_eight Long = omega arith
-at_most_eight Float = omega arith
-at_most_eight Double = omega arith
-at_most_eight Rectangle = omega arith
-at_most_eight Fraction = omega arith
-at_most_eight Fd = omega arith
 
 -- a body in which the word of a value was laid reads as the value
 pub laid_reads : {A : Type 0} (k : Kind) (means : ℕ → A) (v : A) (word : Option ℕ) (body : List ℕ) (r : Result (Unit {0}) Why) (after : List ℕ)
