@@ -12,8 +12,7 @@ pub fn check(bytes: &[u8], rows: &[Row]) -> Result<Surveyed, Refusal>
 {
     let found = survey(bytes)?;
     if found.rows > rows.len() {
-        let start = Spot { place: 0, depth: 1 };
-        return Err(start.refuse(Why::TooManyRows));
+        return Err(Spot::OUTERMOST.refuse(Why::TooManyRows));
     }
     Ok(found)
 }
