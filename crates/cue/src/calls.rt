@@ -161,7 +161,7 @@ impl<'a> Cue<'a> {
     }
 }
 
-// A cue of nothing, shut.
+// A cue of nothing, shut, which stands in while a cue is changed.
 fn none<'a>() -> Cue<'a>
     ensures { result.standing ≡ Nothing }
 {

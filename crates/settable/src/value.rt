@@ -40,6 +40,7 @@ impl Value {
     }
 
     // Its word, or none where it is not a number.
+    // Kept: the nine values are of nine types, so only a match finds the method of each.
     pub fn word(self) -> Option<u64>
         ensures value { result ≡ value_word self }
         ensures fits { IfSome result (λ w. (w < 256 ^ size_of (value_kind self)) × (said (value_kind self) w ≡ w)) }
