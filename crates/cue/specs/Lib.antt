@@ -1,4 +1,3 @@
-pub mod Checks
 pub mod Rows
 pub mod Parties
 pub mod Pods

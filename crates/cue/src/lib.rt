@@ -2,7 +2,6 @@
 #![tactic(auto)]
 
 mod calls;
-mod checking;
 mod choosing;
 mod elements;
 mod held;
@@ -11,5 +10,5 @@ mod parties;
 mod pod;
 mod setting;
 
-pub use checking::check;
 pub use held::Cue;
+pub use tours::check;
