@@ -1,5 +1,5 @@
 -- Eight bytes in one word. Assumes nothing.
-use Rattle.std.proofs.Common.{◌≡◌, ℕ, ◌+◌, ◌*◌, ◌/◌, ◌%◌, ◌<◌, ◌≤◌, List, ◌∷◌, length, get_or, drop, sym, ap, ◌∙◌, arith, lit<}
+use Rattle.std.proofs.Common.{◌≡◌, ℕ, ◌+◌, ◌*◌, ◌/◌, ◌%◌, ◌<◌, ◌≤◌, List, ◌∷◌, length, get_or, take, drop, sym, ap, ◌∙◌, arith, lit<, get_or-take}
 use lib.Bits.{bit_and, and_block, and_high}
 use lib.Pow.{shr_mod}
 use Rattle.std.proofs.lemmas.List.{drop_more}
@@ -46,3 +46,15 @@ one b bs h = let k : b ≤ 0x7f = omega arith in rw (le-leb 0 b (omega arith), l
 -- a byte below 128 at place i
 pub ascii : (text : List ℕ) (i : ℕ) → i < length text → get_or text i 0 < 128 → well_formed (drop i text) ≡ well_formed (drop (i + 1) text)
 ascii text i h k = ap well_formed (drop_more text i 0 h) ∙ one (get_or text i 0) (drop (i + 1) text) k
+
+-- eight bytes at the front whose word has none of the highest bits
+pub ascii_eight : (text front : List ℕ) (w : ℕ) → 8 ≤ length text → ((k : ℕ) → get_or text k 0 < 256) → front ≡ take 8 text
+    → w ≡ get_or front 0 0 + get_or front 1 0 * 256 + get_or front 2 0 * 65536 + get_or front 3 0 * 16777216 + get_or front 4 0 * 4294967296 + get_or front 5 0 * 1099511627776 + get_or front 6 0 * 281474976710656 + get_or front 7 0 * 72057594037927936
+    → bit_and w 0x8080808080808080 ≡ 0 → well_formed text ≡ well_formed (drop 8 text)
+ascii_eight text front w long bytes cut is none =
+    let same = λ (k : ℕ) (few : k < 8). ap (λ bs. get_or bs k 0) cut ∙ get_or-take 8 text k 0 few in
+    let whole : w ≡ get_or text 0 0 + get_or text 1 0 * 256 + get_or text 2 0 * 65536 + get_or text 3 0 * 16777216 + get_or text 4 0 * 4294967296 + get_or text 5 0 * 1099511627776 + get_or text 6 0 * 281474976710656 + get_or text 7 0 * 72057594037927936 =
+    omega (arith, is, same 0 (lit< tt), same 1 (lit< tt), same 2 (lit< tt), same 3 (lit< tt), same 4 (lit< tt), same 5 (lit< tt), same 6 (lit< tt), same 7 (lit< tt)) in
+    let p = ascii_word _ _ _ _ _ _ _ _ w (bytes 0) (bytes 1) (bytes 2) (bytes 3) (bytes 4) (bytes 5) (bytes 6) (bytes 7) whole none in
+    ascii text 0 (omega arith) p.0 ∙ ascii text 1 (omega arith) p.1 ∙ ascii text 2 (omega arith) p.2 ∙ ascii text 3 (omega arith) p.3
+    ∙ ascii text 4 (omega arith) p.4 ∙ ascii text 5 (omega arith) p.5 ∙ ascii text 6 (omega arith) p.6 ∙ ascii text 7 (omega arith) p.7

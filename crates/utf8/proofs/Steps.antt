@@ -1,35 +1,30 @@
 -- A sequence, byte by byte. Assumes nothing.
-use Rattle.std.proofs.Common.{◌≡◌, ℕ, suc, ◌+◌, ◌-◌, ◌<◌, ◌≤◌, true, false, ◌&&◌, List, [], ◌∷◌, ◌++◌, length, get_or, take, drop, replicate, Some, None, Option, sym, ap, ◌∙◌, append-nil, arith, MatchOption}
-use Rattle.std.proofs.lemmas.List.{drop_more, drop_all, take_rest}
+use Rattle.std.proofs.Common.{◌≡◌, ℕ, suc, ◌+◌, ◌-◌, ◌<◌, ◌≤◌, Bool, true, false, ◌&&◌, List, [], ◌∷◌, ◌++◌, length, replicate, Some, None, Option, sym, refl, ap, subst, ◌∙◌, append-nil, arith, MatchOption}
+use Rattle.std.specs.Bool.{then_some}
+use Rattle.std.proofs.lemmas.List.{nil_from_length}
 use Rattle.std.proofs.lemmas.Bool.{lt-ltb}
 use Rattle.std.proofs.lemmas.Bool.Decides.{nat_tests}
-use Rattle.utf8.specs.Reading.{class_of, spans, due_after}
+use Rattle.utf8.specs.Reading.{Lacks, Leaves, class_of, classed, counted, followers_of, spans, due_after}
 use Rattle.utf8.specs.Table37.{Span, span, tail, within, table, find, begun, formed, well_formed}
 
--- the first byte of a text stands before the rest
-pub front : (text : List ℕ) (due : List Span) → 0 < length text → formed text due ≡ formed (get_or text 0 0 ∷ drop 1 text) due
-front text due h = ap (λ bs. formed bs due) (drop_more text 0 0 h)
+-- what holds of a value that is there where a test is true
+pub by_test : {A : Type 0} (b : Bool) (x : A) (o : Option A) (P : Type 0) (Q : A → Type 0) → o ≡ then_some b x → (b ≡ false → P) → (b ≡ true → Q x) → MatchOption o P Q
+by_test {A} true x o P Q e f g = subst (λ (o : Option A). MatchOption o P Q) (sym e) (g refl)
+by_test {A} false x o P Q e f g = subst (λ (o : Option A). MatchOption o P Q) (sym e) (f refl)
 
--- the same, where the rest is a part of a slice
-pub at_front : (text : List ℕ) → 0 < length text → well_formed text ≡ well_formed (get_or text 0 0 ∷ take (length text - 1) (drop 1 text))
-at_front text h = front text [] h ∙ ap (λ bs. well_formed (get_or text 0 0 ∷ bs)) (sym (take_rest text 1))
-
-pub nothing_left : (text : List ℕ) → length text < 1 → well_formed text ≡ true
+-- the byte that is due at the front of a text
+pub missing : (text : List ℕ) (s : Span) → length text ≡ 0 → Lacks (s ∷ []) text
 unfolding formed
-nothing_left text h = ap well_formed (drop_all 0 text (omega arith))
+missing text s h others = ap (λ bs. formed bs (s ∷ others)) (nil_from_length text h)
 
-module _ (text : List ℕ) (low high : ℕ) (others : List Span) where
-  pub missing : length text < 1 → formed text (span low high ∷ others) ≡ false
+module _ (text : List ℕ) (s : Span) (b : ℕ) (rest : List ℕ) where
+  pub inside : text ≡ b ∷ rest → within s b ≡ true → Leaves (s ∷ []) text rest
   unfolding formed
-  missing h = ap (λ bs. formed bs (span low high ∷ others)) (drop_all 0 text (omega arith))
+  inside e w others = ap (λ bs. formed bs (s ∷ others)) e ∙ ap (λ y. y && formed rest others) w
 
-  pub inside : 0 < length text → within (span low high) (get_or text 0 0) ≡ true → formed text (span low high ∷ others) ≡ formed (drop 1 text) others
+  pub outside : text ≡ b ∷ rest → within s b ≡ false → Lacks (s ∷ []) text
   unfolding formed
-  inside h w = front text (span low high ∷ others) h ∙ ap (λ y. y && formed (drop 1 text) others) w
-
-  pub outside : 0 < length text → within (span low high) (get_or text 0 0) ≡ false → formed text (span low high ∷ others) ≡ false
-  unfolding formed
-  outside h w = front text (span low high ∷ others) h ∙ ap (λ y. y && formed (drop 1 text) others) w
+  outside e w others = ap (λ bs. formed bs (s ∷ others)) e ∙ ap (λ y. y && formed rest others) w
 
 -- the tails that are due once i of them were read
 module _ (text : List ℕ) (count i : ℕ) (others : List Span) where
@@ -39,22 +34,28 @@ module _ (text : List ℕ) (count i : ℕ) (others : List Span) where
   pub none_due : count ≤ i → formed text (replicate (count - i) tail ++ others) ≡ formed text others
   none_due h = let e : count - i ≡ 0 = omega arith in ap (λ (n : ℕ). formed text (replicate n tail ++ others)) e
 
--- a lead byte, by its class
+-- where a line was found, its class says how many bytes follow
+class_counted : (line : Option (List Span)) (n : ℕ) → counted line ≡ Some n → n ≡ classed line
+class_counted None n e = cc
+class_counted (Some further) n e = cc
+
+-- a lead byte, by how many bytes follow
 module _ (b : ℕ) (bs : List ℕ) where
-  pub leads_alone : 0 ≡ class_of b → well_formed (b ∷ bs) ≡ well_formed bs
+  pub leads_alone : followers_of b ≡ Some 0 → well_formed (b ∷ bs) ≡ well_formed bs
   unfolding formed
   leads_alone z = let e : find table b ≡ Some [] = grind (arith, nat_tests) in ap (λ o. begun o (λ further. formed bs further)) e
 
-  pub leads_more : (n l h : ℕ) → n ≡ class_of b → find table b ≡ due_after (class_of b) l h → 1 ≤ n → n ≤ 3 → well_formed (b ∷ bs) ≡ formed bs (span l h ∷ (replicate (n - 1) tail ++ []))
+  pub leads_more : (n l h : ℕ) → followers_of b ≡ Some n → find table b ≡ due_after (class_of b) l h → 1 ≤ n → well_formed (b ∷ bs) ≡ formed bs (span l h ∷ (replicate (n - 1) tail ++ []))
   unfolding formed
-  leads_more n l h z e k m =
-      let few : n < 4 = omega arith in
+  leads_more n l h z e k =
+      let class : n ≡ class_of b = class_counted (find table b) n z in
+      let few : n < 4 = grind (arith, nat_tests) in
       let one_more : n ≡ suc (n - 1) = omega arith in
-      rw (e, ← z, lt-ltb n 4 few) (ap (λ m. formed bs (spans m l h)) one_more) ∙ ap (λ due. formed bs (span l h ∷ due)) (sym (append-nil (replicate (n - 1) tail)))
+      rw (e, ← class, lt-ltb n 4 few) (ap (λ m. formed bs (spans m l h)) one_more) ∙ ap (λ due. formed bs (span l h ∷ due)) (sym (append-nil (replicate (n - 1) tail)))
 
-  pub leads_not : (n : ℕ) → n ≡ class_of b → 4 ≤ n → well_formed (b ∷ bs) ≡ false
+  pub leads_not : followers_of b ≡ None → well_formed (b ∷ bs) ≡ false
   unfolding formed
-  leads_not n z k = let e : find table b ≡ None = grind (arith, nat_tests) in ap (λ o. begun o (λ further. formed bs further)) e
+  leads_not z = let e : find table b ≡ None = grind (arith, nat_tests) in ap (λ o. begun o (λ further. formed bs further)) e
 
 pub weaker : {A : Type 0} (o : Option A) {P P' : Type 0} {Q Q' : A → Type 0} → MatchOption o P Q → (P → P') → ((x : A) → Q x → Q' x) → MatchOption o P' Q'
 weaker None c f g = f c

@@ -1,5 +1,6 @@
 -- Words for the steps in which a text is read by Table 3-7. Assumes nothing.
-use Rattle.std.specs.Prelude.{◌≡◌, ℕ, zero, suc, ◌+◌, ◌*◌, Bool, true, false, cond, ◌&&◌, List, [], ◌∷◌, ◌++◌, length, replicate, Some, None, Option, ◌==◌, nat_lt}
+use Rattle.std.specs.Prelude.{◌≡◌, ℕ, zero, suc, ◌+◌, ◌*◌, ◌≤◌, Bool, true, false, cond, ◌&&◌, List, [], ◌∷◌, ◌++◌, length, replicate, Some, None, MatchOption, Option, ◌==◌, nat_lt}
+use Rattle.std.specs.Borrow.{Bor}
 use Rattle.utf8.specs.Table37.{Span, span, tail, table, find, formed}
 
 -- how many bytes follow, or 4 where no line was found
@@ -10,6 +11,15 @@ classed (Some further) = length further
 -- the class of a first byte
 abbrev pub class_of : ℕ → ℕ
 class_of b = classed (find table b)
+
+-- how many bytes follow, where a line was found
+abbrev pub counted : Option (List Span) → Option ℕ
+counted None = None
+counted (Some further) = Some (length further)
+
+-- how many bytes follow a first byte
+abbrev pub followers_of : ℕ → Option ℕ
+followers_of b = counted (find table b)
 
 -- the spans of n bytes, of which the first has its own
 abbrev pub spans : (n low high : ℕ) → List Span
@@ -32,6 +42,10 @@ Leaves due text rest = (others : List Span) → formed text (due ++ others) ≡ 
 -- the bytes that are due do not stand in front of a text
 abbrev pub Lacks : (due : List Span) (text : List ℕ) → Type 0
 Lacks due text = (others : List Span) → formed text (due ++ others) ≡ false
+
+-- what is left of a text after the bytes that are due, or nothing where they do not stand in front
+abbrev pub Takes : (due : List Span) (text : List ℕ) → Option (Bor (List ℕ)) → Type 0
+Takes due text left = MatchOption left (Lacks due text) (λ rest. (length rest.now ≤ length text) × Leaves due text rest.now)
 
 -- the highest bit of each of n bytes
 abbrev pub highs : ℕ → ℕ

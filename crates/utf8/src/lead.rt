@@ -1,6 +1,6 @@
 // The classes of lead bytes.
 ghost use Rattle.std.specs.Prelude.{◌≡◌, true};
-ghost use Rattle.utf8.specs.Reading.{class_of, right_from};
+ghost use Rattle.utf8.specs.Reading.{class_of, followers_of, right_from};
 
 // The class of each byte.
 const LEAD: [u8; 256] = [
@@ -25,9 +25,10 @@ fn class_in(classes: &[u8; 256], lead: u8) -> u8
     classes[lead as usize]
 }
 
-// How many bytes follow `lead`; 4 where no sequence begins with it.
-pub fn lead_class(lead: u8) -> u8
-    ensures { result ≡ class_of lead }
+// How many bytes follow `lead`; none where no sequence begins with it.
+pub fn followers(lead: u8) -> Option<u8>
+    ensures { result ≡ followers_of lead }
 {
-    class_in(&LEAD, lead)
+    let class = class_in(&LEAD, lead);
+    (class < 4).then_some(class)
 }

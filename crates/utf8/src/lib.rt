@@ -2,14 +2,15 @@
 #![tactic(auto)]
 
 ghost use Rattle.std.specs.Prelude.{◌≡◌, ◌<◌, ◌≤◌, false, [], ◌∷◌, length, replicate, IfSome, IsUtf8, Decides, MatchOption, bit_and, nat_lt};
-ghost use Rattle.utf8.specs.Reading.{Lacks, Leaves, class_of, due_after, highs};
+ghost use Rattle.utf8.specs.Reading.{Takes, class_of, due_after, highs};
 ghost use Rattle.utf8.specs.Table37.{find, span as due, table, tail, well_formed, within};
 
-use lead::lead_class;
+use lead::followers;
 
 mod lead;
 
 // The first and the last of the bytes that may stand at one place.
+// Kept: a `RangeInclusive` may be used up, so `second` and `after_byte` would each need one more clause, that it is not.
 #[derive(Clone, Copy)]
 struct Bounds {
     low: u8,
@@ -21,7 +22,7 @@ impl Bounds {
     fn has(self, b: u8) -> bool
         ensures { result ≡ within (due self.low self.high) b }
     {
-        self.low <= b && b <= self.high
+        (self.low..=self.high).contains(&b)
     }
 }
 
@@ -57,20 +58,15 @@ fn second(lead: u8) -> Bounds
 
 // What is left of `text` after its first byte; nothing where that is out of bounds or missing.
 fn after_byte(bounds: Bounds, text: &[u8]) -> Option<&[u8]>
-    ensures { MatchOption result (Lacks (due bounds.low bounds.high ∷ []) text.now) (λ rest. (length rest.now < length text.now) × Leaves (due bounds.low bounds.high ∷ []) text.now rest.now) }
+    ensures { Takes (due bounds.low bounds.high ∷ []) text.now result }
 {
-    let [b, rest @ ..] = text else {
-        return None;
-    };
-    if !bounds.has(*b) {
-        return None;
-    }
-    Some(rest)
+    let (b, rest) = text.split_first()?;
+    bounds.has(*b).then_some(rest)
 }
 
 // What is left of `text` after `count` tails; nothing where one is missing.
 fn after_tails(count: u8, text: &[u8]) -> Option<&[u8]>
-    ensures { MatchOption result (Lacks (replicate count tail) text.now) (λ rest. (length rest.now ≤ length text.now) × Leaves (replicate count tail) text.now rest.now) }
+    ensures { Takes (replicate count tail) text.now result }
 {
     let mut rest = text;
     for _ in 0..count {
@@ -83,18 +79,10 @@ fn after_tails(count: u8, text: &[u8]) -> Option<&[u8]>
 fn after_sequence(lead: u8, rest: &[u8]) -> Option<&[u8]>
     ensures { MatchOption result (well_formed (lead ∷ rest.now) ≡ false) (λ left. (length left.now ≤ length rest.now) × (well_formed (lead ∷ rest.now) ≡ well_formed left.now)) }
 {
-    match lead_class(lead) {
+    match followers(lead)? {
         0 => Some(rest),
-        class @ 1..=3 => after_tails(class - 1, after_byte(second(lead), rest)?),
-        _ => None,
+        count => after_tails(count - 1, after_byte(second(lead), rest)?),
     }
-}
-
-// Whether `b` is ASCII.
-fn is_ascii(b: u8) -> bool
-    ensures { result ≡ nat_lt b 128 }
-{
-    b < 0x80
 }
 
 // The highest bit of each of a word's eight bytes.
@@ -108,14 +96,8 @@ fn high_bits(word: u64) -> u64
 fn after_word(text: &[u8]) -> Option<&[u8]>
     ensures { IfSome result (λ left. (length left.now < length text.now) × (well_formed text.now ≡ well_formed left.now)) }
 {
-    let [a, b, c, d, e, f, g, h, left @ ..] = text else {
-        return None;
-    };
-    let word = u64::from_le_bytes([*a, *b, *c, *d, *e, *f, *g, *h]);
-    if high_bits(word) != 0 {
-        return None;
-    }
-    Some(left)
+    let (word, left) = text.split_first_chunk::<8>()?;
+    (high_bits(u64::from_le_bytes(*word)) == 0).then_some(left)
 }
 
 // What is left after the ASCII bytes at the front.
@@ -126,10 +108,9 @@ fn after_ascii(text: &[u8]) -> &[u8]
     while let Some(rest) = after_word(left) {
         left = rest;
     }
-    while let [b, rest @ ..] = left {
-        if !is_ascii(*b) {
-            break;
-        }
+    while let [b, rest @ ..] = left
+        && b.is_ascii()
+    {
         left = rest;
     }
     left
@@ -142,7 +123,7 @@ pub fn check(text: &[u8]) -> bool
 {
     let mut left = text;
     loop {
-        let [lead, rest @ ..] = after_ascii(left) else {
+        let Some((lead, rest)) = after_ascii(left).split_first() else {
             return true;
         };
         let Some(next) = after_sequence(*lead, rest) else {

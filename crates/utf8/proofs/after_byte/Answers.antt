@@ -1,19 +1,13 @@
-use Rattle.std.proofs.Common.{◌<◌, length, sym, ◌∙◌, arith, length-drop, rules}
-use Rattle.std.proofs.lemmas.List.{take_rest}
-use Rattle.utf8.proofs.Steps.{missing, inside, outside}
+use Rattle.std.proofs.Common.{◌∙◌, sym, arith}
+use Rattle.utf8.proofs.Steps.{by_test, missing, inside, outside}
 use Rattle.utf8.proofs.after_byte.Goals as goal
 
-pub returns-in_default : goal.returns-in_default
-returns-in_default c = λ others. missing c.args.text.now c.args.bounds.low c.args.bounds.high others (search rules)
-
-pub returns-then-not-has : goal.returns-then-not-has
-returns-then-not-has c =
-    λ others. outside c.args.text.now c.args.bounds.low c.args.bounds.high others (search rules) (sym c.has.ensures ∙ c.if-not-has.true)
+pub returns-in_err-b : goal.returns-in_err-b
+returns-in_err-b c = rw c.from_residual.ensures (missing c.args.text.now _ c.in_err-b.ensures.cases)
 
 pub returns : goal.returns
 returns c =
-    let some : 0 < length c.args.text.now = search rules in
-    rw (take_rest c.args.text.now 1) (
-      omega (arith, length-drop 1 c.args.text.now),
-      λ others. inside c.args.text.now c.args.bounds.low c.args.bounds.high others some (sym c.has.ensures ∙ c.if-not-has.false),
-    )
+    let whole = c.in_ok-b.ensures.cases in
+    by_test c.has.result c.in_ok-b.rest c.then_some.result _ _ c.then_some.ensures
+    (λ no. outside _ _ _ _ whole.0 (sym c.has.ensures ∙ no))
+    (λ yes. (omega (arith, whole.1), inside _ _ _ _ whole.0 (sym c.has.ensures ∙ yes)))

@@ -1,15 +1,12 @@
-use Rattle.std.proofs.Common.{ℕ, ◌<◌, List, length, ◌∙◌, arith, length-drop, rules}
-use Rattle.std.proofs.lemmas.List.{take_rest}
-use Rattle.utf8.proofs.Ascii.{ascii_word, ascii}
+use Rattle.std.proofs.Common.{◌∙◌, ap, sym, arith}
+use Rattle.std.proofs.lemmas.Bool.{eqb-true}
+use Rattle.utf8.specs.Table37.{well_formed}
+use Rattle.utf8.proofs.Ascii.{ascii_eight}
+use Rattle.utf8.proofs.Steps.{by_test}
 use Rattle.utf8.proofs.after_word.Goals as goal
 
 pub returns : goal.returns
 returns c =
-    let text : List ℕ = c.args.text.now in
-    let long : 7 < length text = search rules in
-    let p = ascii_word _ _ _ _ _ _ _ _ _ (search rules) (search rules) (search rules) (search rules) (search rules) (search rules) (search rules) (search rules) c.from_le_bytes-word.ensures (omega arith) in
-    rw (take_rest c.args.text.now 8) (
-      omega (arith, length-drop 8 c.args.text.now),
-      ascii text 0 (omega arith) p.0 ∙ ascii text 1 (omega arith) p.1 ∙ ascii text 2 (omega arith) p.2 ∙ ascii text 3 (omega arith) p.3
-          ∙ ascii text 4 (omega arith) p.4 ∙ ascii text 5 (omega arith) p.5 ∙ ascii text 6 (omega arith) p.6 ∙ ascii text 7 (omega arith) p.7,
-    )
+    let cut = c.in_ok-word.ensures.cases in
+    by_test _ c.in_ok-word.left c.then_some.result _ _ c.then_some.ensures (λ no. tt)
+    (λ yes. (omega (arith, cut.2), ascii_eight c.args.text.now c.in_ok-word.word.now c.from_le_bytes.result (omega (arith, cut.2)) (λ k. (c.type_inv.text k).fits) cut.0 c.from_le_bytes.ensures (sym c.high_bits.ensures ∙ eqb-true c.high_bits.result 0 yes) ∙ ap well_formed (sym cut.1)))
