@@ -6,7 +6,7 @@ use Rattle.pods.specs.Survey.{answered, survey_of}
 use Rattle.trials.specs.declared.trial.Answer.{Answer}
 use Rattle.trials.specs.declared.trial.Answer.TheVariants.{Surveyed, Refused, WellFormed, IllFormed}
 use Rattle.trials.specs.declared.trial.Outcome.{Outcome}
-use Rattle.trials.specs.declared.trial.Outcome.TheVariants.{Agrees, Differs, Unread}
+use Rattle.trials.specs.declared.trial.Outcome.TheVariants.{Agrees, Differs}
 use Rattle.trials.specs.declared.trial.Task.{Task}
 use Rattle.trials.specs.declared.trial.Task.TheVariants.{Survey, Text}
 use Rattle.trials.specs.Hex.{Given}
@@ -40,12 +40,9 @@ written IllFormed = codes "no"
 
 -- the outcome is the right one, where the digits spell the bytes
 abbrev pub Judged : Task → List ℕ → List ℕ → List ℕ → Outcome → Type 0
-Judged task digits expected bytes Agrees = Given true digits bytes × ((a : Answer) × (Right task bytes a × (written a ≡ expected)))
-Judged task digits expected bytes (Differs a) = Given true digits bytes × (Right task bytes a × (written a ≢ expected))
-Judged task digits expected bytes Unread = Unit {0}
+Judged task digits expected bytes Agrees = Given digits bytes × ((a : Answer) × (Right task bytes a × (written a ≡ expected)))
+Judged task digits expected bytes (Differs a) = Given digits bytes × (Right task bytes a × (written a ≢ expected))
 
 -- the outcome of a line is that of the trial that it spells
-abbrev pub Tried : List ℕ → List ℕ → Outcome → Type 0
-Tried line bytes Agrees = (task : Task) × (digits : List ℕ) × (expected : List ℕ) × (line ≡ line_of task digits expected) × Judged task digits expected bytes Agrees
-Tried line bytes (Differs a) = (task : Task) × (digits : List ℕ) × (expected : List ℕ) × (line ≡ line_of task digits expected) × Judged task digits expected bytes (Differs a)
-Tried line bytes Unread = Unit {0}
+abbrev pub Tried : List ℕ → Outcome → Type 0
+Tried line outcome = (bytes : List ℕ) × (task : Task) × (digits : List ℕ) × (expected : List ℕ) × (line ≡ line_of task digits expected) × Judged task digits expected bytes outcome

@@ -1,5 +1,5 @@
 -- Hexadecimal digits.
-use Rattle.std.specs.Prelude.{◌≡◌, ℕ, ◌+◌, ◌/◌, ◌%◌, Bool, true, false, cond, ◌⊎◌, List, [], ◌∷◌, codes, nat_lt}
+use Rattle.std.specs.Prelude.{◌≡◌, ℕ, ◌+◌, ◌/◌, ◌%◌, cond, ◌⊎◌, List, [], ◌∷◌, codes, nat_lt}
 
 -- the digit that stands for a number below 16: 0 to 9, then a to f
 abbrev pub digit_of : ℕ → ℕ
@@ -10,12 +10,6 @@ abbrev pub digits_of : List ℕ → List ℕ
 digits_of [] = []
 digits_of (b ∷ bs) = digit_of (b / 16) ∷ digit_of (b % 16) ∷ digits_of bs
 
--- where the answer is yes, the digits are those of the bytes
-abbrev pub Spelled : Bool → List ℕ → List ℕ → Type 0
-Spelled true digits bytes = digits ≡ digits_of bytes
-Spelled false digits bytes = Unit {0}
-
--- the same, where a dash stands for no bytes
-abbrev pub Given : Bool → List ℕ → List ℕ → Type 0
-Given true digits bytes = ((digits ≡ codes "-") × (bytes ≡ [])) ⊎ (digits ≡ digits_of bytes)
-Given false digits bytes = Unit {0}
+-- the digits are those of the bytes, or a dash, which stands for no bytes
+abbrev pub Given : List ℕ → List ℕ → Type 0
+Given digits bytes = ((digits ≡ codes "-") × (bytes ≡ [])) ⊎ (digits ≡ digits_of bytes)

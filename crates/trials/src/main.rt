@@ -13,16 +13,14 @@
 // The last line printed says how many lines were tried, and how many differ.
 #![tactic(auto)]
 
-mod hex;
 mod trial;
 
 use std::io::{BufRead, BufReader};
-use trial::{Outcome, try_line};
+use trial::{Outcome, Untried, try_line};
 
 // Tries all lines.
 fn run(rt: &HostRuntime) -> anyhow::Result<()> {
     let heap = rt.alloc();
-    let mut bytes = Vec::new(heap);
     let mut number = 0u64;
     let mut tried = 0u64;
     let mut differ = 0u64;
@@ -35,10 +33,11 @@ fn run(rt: &HostRuntime) -> anyhow::Result<()> {
             continue;
         }
         tried = tried.saturating_add(1);
-        match try_line(heap, line, &mut bytes)? {
-            Outcome::Agrees => continue,
-            Outcome::Differs(answer) => println!(rt; "{number}: {line}: {answer}")?,
-            Outcome::Unread => println!(rt; "{number}: {line}: not read")?,
+        match try_line(heap, line) {
+            Ok(Outcome::Agrees) => continue,
+            Ok(Outcome::Differs(answer)) => println!(rt; "{number}: {line}: {answer}")?,
+            Err(Untried::Unread) => println!(rt; "{number}: {line}: not read")?,
+            Err(Untried::OutOfMemory) => return Err(Untried::OutOfMemory.into()),
         }
         differ = differ.saturating_add(1);
     }

@@ -1,13 +1,15 @@
 // What a line asks for, and the answer to it.
-ghost use Rattle.std.specs.Prelude.{◌≡◌, IfSome, IfOk, Some};
+ghost use Rattle.std.specs.Prelude.{◌≡◌, IfOk, Some};
 ghost use Rattle.trials.specs.Answers.{Judged, Right, Tried, line_of, name_of, written};
 ghost use Rattle.trials.specs.Hex.{Given};
 
-use crate::hex::decode;
+use hex::FromHexError;
 use pods::{Surveyed, survey};
 use refusals::Refusal;
 use std::alloc::{AllocError, Global};
 use std::fmt;
+use std::str::FromStr;
+use thiserror::Error;
 use utf8::check;
 
 // What can be asked of some bytes.
@@ -25,28 +27,6 @@ pub enum Answer {
     IllFormed,
 }
 
-impl fmt::Display for Answer {
-    ghost output = { λ a. Some (written a) };
-
-    fn fmt<W: fmt::Write>(&self, f: &mut fmt::Formatter<W>) -> fmt::Result {
-        match self {
-            Answer::Surveyed(found) => {
-                let rows = found.rows;
-                let used = found.used;
-                write!(f, "rows {rows} used {used}")
-            }
-            Answer::Refused(refusal) => {
-                let number = refusal.why.number();
-                let place = refusal.spot.place;
-                let depth = refusal.spot.depth;
-                write!(f, "refused {number} {place} {depth}")
-            }
-            Answer::WellFormed => f.write_str("yes"),
-            Answer::IllFormed => f.write_str("no"),
-        }
-    }
-}
-
 // A task, the bytes that it is for, as digits, and the answer that is expected.
 #[derive(Clone, Copy)]
 struct Trial<'a> {
@@ -55,26 +35,65 @@ struct Trial<'a> {
     expected: &'a str,
 }
 
-// Whether the answer found is the expected one, or the line spells no trial.
+// Whether the answer found is the expected one.
 #[derive(Clone, Copy)]
 pub enum Outcome {
     Agrees,
     Differs(Answer),
+}
+
+// Why a line is not tried.
+#[derive(Clone, Copy, Debug, Error)]
+pub enum Untried {
+    #[error("not read")]
     Unread,
+    #[error("memory allocation failed")]
+    OutOfMemory,
+}
+
+impl From<FromHexError> for Untried {
+    fn from(e: FromHexError) -> Untried {
+        match e {
+            FromHexError::OutOfMemory => Untried::OutOfMemory,
+            _ => Untried::Unread,
+        }
+    }
+}
+
+impl From<AllocError> for Untried {
+    fn from(_: AllocError) -> Untried {
+        Untried::OutOfMemory
+    }
+}
+
+impl fmt::Display for Answer {
+    ghost output = { λ a. Some (written a) };
+
+    fn fmt<W: fmt::Write>(&self, f: &mut fmt::Formatter<W>) -> fmt::Result {
+        match self {
+            Answer::Surveyed(Surveyed { rows, used }) => write!(f, "rows {rows} used {used}"),
+            Answer::Refused(refusal) => write!(f, "{refusal}"),
+            Answer::WellFormed => f.write_str("yes"),
+            Answer::IllFormed => f.write_str("no"),
+        }
+    }
+}
+
+impl FromStr for Task {
+    type Err = Untried;
+
+    ghost from_str_gives = { λ name r. IfOk r (λ task. name ≡ name_of task) };
+
+    fn from_str(name: &str) -> Result<Task, Untried> {
+        match name {
+            "survey" => Ok(Task::Survey),
+            "text" => Ok(Task::Text),
+            _ => Err(Untried::Unread),
+        }
+    }
 }
 
 impl Task {
-    // The task of that name.
-    fn named(name: &str) -> Option<Task>
-        ensures { IfSome result (λ task. name.now ≡ name_of task) }
-    {
-        match name {
-            "survey" => Some(Task::Survey),
-            "text" => Some(Task::Text),
-            _ => None,
-        }
-    }
-
     // The answer to it for some bytes.
     fn answer(self, bytes: &[u8]) -> Answer
         ensures { Right self bytes.now result }
@@ -97,39 +116,35 @@ impl Task {
 
 impl Trial<'_> {
     // The trial that a line spells.
-    fn parse(line: &str) -> Option<Trial<'_>>
-        ensures { IfSome result (λ t. line.now ≡ line_of t.task t.digits.now t.expected.now) }
+    fn parse(line: &str) -> Result<Trial<'_>, Untried>
+        ensures { IfOk result (λ t. line.now ≡ line_of t.task t.digits.now t.expected.now) }
     {
-        let (name, rest) = line.split_once(' ')?;
-        let task = Task::named(name)?;
-        let (digits, expected) = rest.split_once(" = ")?;
-        Some(Trial {
+        let (name, rest) = line.split_once(' ').ok_or(Untried::Unread)?;
+        let task = name.parse()?;
+        let (digits, expected) = rest.split_once(" = ").ok_or(Untried::Unread)?;
+        Ok(Trial {
             task,
             digits,
             expected,
         })
     }
 
-    // Makes `bytes` those that its digits spell, and says whether they spell any; `-` spells none.
-    fn decode(self, bytes: &mut Vec<u8>) -> Result<bool, AllocError>
-        ensures { IfOk result (λ all. Given all self.entry.digits.now bytes.new.items) }
+    // The bytes that its digits spell, with no upper-case letter; `-` spells none.
+    fn bytes(self, heap: Global) -> Result<Vec<u8>, Untried>
+        ensures { IfOk result (λ bytes. Given self.entry.digits.now bytes.items) }
     {
-        match self.digits {
-            "-" => {
-                bytes.clear();
-                Ok(true)
-            }
-            digits => decode(digits.as_bytes(), bytes),
+        match self.digits.as_bytes() {
+            b"-" => Ok(Vec::new(heap)),
+            digits if digits.iter().any(u8::is_ascii_uppercase) => Err(Untried::Unread),
+            digits => Ok(hex::decode(heap, digits)?),
         }
     }
 
-    // Tries it; `bytes` is where its bytes are put.
-    fn outcome(self, heap: Global, bytes: &mut Vec<u8>) -> Result<Outcome, AllocError>
-        ensures { IfOk result (Judged self.entry.task self.entry.digits.now self.entry.expected.now bytes.new.items) }
+    // Whether the answer to it for `bytes` is the expected one.
+    fn outcome(self, heap: Global, bytes: &[u8]) -> Result<Outcome, Untried>
+        requires { Given self.digits.now bytes.now }
+        ensures { IfOk result (Judged self.entry.task self.entry.digits.now self.entry.expected.now bytes.now) }
     {
-        if !self.decode(bytes)? {
-            return Ok(Outcome::Unread);
-        }
         let answer = self.task.answer(bytes);
         let shown = format!(in heap; "{answer}")?;
         if shown.as_str() == self.expected {
@@ -140,12 +155,11 @@ impl Trial<'_> {
     }
 }
 
-// Tries a line; `bytes` is where its bytes are put.
-pub fn try_line(heap: Global, line: &str, bytes: &mut Vec<u8>) -> Result<Outcome, AllocError>
-    ensures { IfOk result (Tried line.now bytes.new.items) }
+// Tries a line.
+pub fn try_line(heap: Global, line: &str) -> Result<Outcome, Untried>
+    ensures { IfOk result (Tried line.now) }
 {
-    match Trial::parse(line) {
-        Some(trial) => trial.outcome(heap, bytes),
-        None => Ok(Outcome::Unread),
-    }
+    let trial = Trial::parse(line)?;
+    let bytes = trial.bytes(heap)?;
+    trial.outcome(heap, &bytes)
 }
