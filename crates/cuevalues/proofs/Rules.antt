@@ -4,6 +4,7 @@ use Rattle.std.proofs.lemmas.List.{take-append-le, take_all}
 use Rattle.std.proofs.lemmas.Bool.{le-leb, lt-leb, cond-true, cond-false}
 use Rattle.tours.specs.Told.{Thing}
 use Rattle.tours.specs.Lead.{Answer, Kept}
+use Rattle.cuevalues.specs.declared.page.Full.{Full}
 use Rattle.cuevalues.specs.Pages.{Laid}
 use Rattle.cuevalues.specs.Values.{Written, thing_text, joins, leaves, writes}
 
@@ -17,11 +18,11 @@ kept old j l t new j' l' laid few ej el =
     subst P (sym (cond-true (leb (length old + length (thing_text j l t)) 262144) _ _ (le-leb _ _ fits)))
     (λ i. record { text = laid i; joined = ej i; left = el i })
 
--- what does not fit is refused, and what was held is held
-pub full : (old : List ℕ) (j : Bool) (l : ℕ) (t : Thing) (n : ℕ) (mid new : List ℕ) (j' : Bool) (l' : ℕ) → Laid old (thing_text j l t) (Err n) mid → new ≡ take (length old) mid → j' ≡ j → l' ≡ l
+-- what does not fit is refused with 1, and what was held is held
+pub full : (old : List ℕ) (j : Bool) (l : ℕ) (t : Thing) (f : Full) (mid new : List ℕ) (j' : Bool) (l' n : ℕ) → Laid old (thing_text j l t) (Err f) mid → new ≡ take (length old) mid → j' ≡ j → l' ≡ l → n ≡ 1
     → Kept (writes record { text = old; joined = j; left = l } t) (Err n) record { text = old; joined = j; left = l } record { text = new; joined = j'; left = l' }
-full old j l t n mid new j' l' laid cut ej el =
+full old j l t f mid new j' l' n laid cut ej el is =
     let P : Answer Written → Type 0 = λ a. Kept a (Err n) record { text = old; joined = j; left = l } record { text = new; joined = j'; left = l' } in
-    let same : new ≡ old = cut ∙ ap (take (length old)) laid.2.1 ∙ take-append-le (length old) old laid.2.0 (omega arith) ∙ take_all (length old) old (omega arith) in
-    subst P (sym (cond-false (leb (length old + length (thing_text j l t)) 262144) _ _ (lt-leb _ _ laid.1)))
-    (laid.0, λ i. record { text = same i; joined = ej i; left = el i })
+    let same : new ≡ old = cut ∙ ap (take (length old)) laid.1.1 ∙ take-append-le (length old) old laid.1.0 (omega arith) ∙ take_all (length old) old (omega arith) in
+    subst P (sym (cond-false (leb (length old + length (thing_text j l t)) 262144) _ _ (lt-leb _ _ laid.0)))
+    (is, λ i. record { text = same i; joined = ej i; left = el i })

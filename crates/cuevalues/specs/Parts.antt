@@ -1,5 +1,6 @@
 -- The bytes of parts. Assumes nothing.
 use Rattle.std.specs.Prelude.{ℕ, zero, suc, ◌/◌, ◌%◌, List, [], ◌∷◌, ◌++◌, decimal}
+use Rattle.std.specs.List.{flat_map}
 use Rattle.cuevalues.specs.declared.part.Part.{Part}
 use Rattle.cuevalues.specs.declared.part.Part.TheVariants.{Words, Decimal, Minus, Pair, Bits, Hex}
 use Rattle.cuevalues.specs.Hex.{digit_of, digits_of}
@@ -19,5 +20,4 @@ said_part (Hex bytes) = digits_of bytes.now
 
 -- one part after the other
 abbrev pub said : List Part → List ℕ
-said [] = []
-said (p ∷ ps) = said_part p ++ said ps
+said parts = flat_map said_part parts

@@ -8,12 +8,11 @@
 //     error REASON                   the line is not hex, or the value is too long to be written
 #![tactic(auto)]
 
-mod hex;
 mod page;
 mod part;
 mod scribe;
 
-use hex::decode;
+use hex::FromHexError;
 use pods::survey;
 use scribe::Scribe;
 use std::io::{BufRead, BufReader};
@@ -22,24 +21,20 @@ use tours::tour_bytes;
 // Prints the value of a cue, or why there is none.
 fn show(rt: &HostRuntime, bytes: &[u8]) -> anyhow::Result<()> {
     let heap = rt.alloc();
-    let mut scribe = Scribe::new(heap)?;
-    match survey(bytes) {
-        Ok(found) => {
-            let used = found.used;
-            match tour_bytes(bytes, &mut scribe) {
-                Ok(_) => {
-                    let text = String::from_utf8_lossy(heap, scribe.text())?;
-                    println!(rt; "ok {used} {text}")?;
-                }
-                Err(_) => println!(rt; "error too long to be written")?,
-            }
-        }
+    let used = match survey(bytes) {
+        Ok(found) => found.used,
         Err(refusal) => {
-            let number = refusal.why.number();
-            let place = refusal.spot.place;
-            let depth = refusal.spot.depth;
-            println!(rt; "refused {number} {place} {depth}")?;
+            println!(rt; "{refusal}")?;
+            return Ok(());
         }
+    };
+    let mut scribe = Scribe::new(heap)?;
+    match tour_bytes(bytes, &mut scribe) {
+        Ok(_) => {
+            let text = String::from_utf8_lossy(heap, scribe.text())?;
+            println!(rt; "ok {used} {text}")?;
+        }
+        Err(_) => println!(rt; "error too long to be written")?,
     }
     Ok(())
 }
@@ -47,15 +42,11 @@ fn show(rt: &HostRuntime, bytes: &[u8]) -> anyhow::Result<()> {
 // Answers each line.
 fn run(rt: &HostRuntime) -> anyhow::Result<()> {
     let heap = rt.alloc();
-    let mut bytes = Vec::new(heap);
     for line in BufReader::new(heap, rt.stdin())?.split(heap, b'\n') {
-        let text = String::from_utf8_lossy(heap, &line?)?;
-        let mut digits = text.clone()?;
-        digits.make_ascii_lowercase();
-        if decode(digits.as_bytes(), &mut bytes)? {
-            show(rt, &bytes)?;
-        } else {
-            println!(rt; "error not hex")?;
+        match hex::decode(heap, line?) {
+            Ok(bytes) => show(rt, &bytes)?,
+            Err(e @ FromHexError::OutOfMemory) => return Err(e.into()),
+            Err(_) => println!(rt; "error not hex")?,
         }
     }
     Ok(())

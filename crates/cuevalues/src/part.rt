@@ -4,6 +4,7 @@ ghost use Rattle.cuevalues.specs.Parts.{said_part};
 ghost use Rattle.cuevalues.specs.Values.{int_of, long_of, name_of, value_of};
 
 use kinds::Kind;
+use words::DoubleWord;
 
 #[derive(Clone, Copy)]
 pub enum Part<'a> {
@@ -12,7 +13,7 @@ pub enum Part<'a> {
     // with a minus sign
     Minus(u64),
     // two numbers and the byte between them
-    Pair(u64, u8, u64),
+    Pair(u32, u8, u32),
     // so many hexadecimal digits of a number
     Bits(u32, u64),
     // two hexadecimal digits for each byte
@@ -23,18 +24,18 @@ pub enum Part<'a> {
 pub fn name<'a>(kind: u32) -> Part<'a>
     ensures { said_part result ≡ name_of kind }
 {
-    Part::Words(match Kind::from_type(kind) {
-        Some(Kind::None) => "none",
-        Some(Kind::Bool) => "bool",
-        Some(Kind::Id) => "id",
-        Some(Kind::Int) => "int",
-        Some(Kind::Long) => "long",
-        Some(Kind::Float) => "float",
-        Some(Kind::Double) => "double",
-        Some(Kind::Rectangle) => "rectangle",
-        Some(Kind::Fraction) => "fraction",
-        Some(Kind::Fd) => "fd",
-        None => "unknown",
+    Part::Words(match Kind::try_from(kind) {
+        Ok(Kind::None) => "none",
+        Ok(Kind::Bool) => "bool",
+        Ok(Kind::Id) => "id",
+        Ok(Kind::Int) => "int",
+        Ok(Kind::Long) => "long",
+        Ok(Kind::Float) => "float",
+        Ok(Kind::Double) => "double",
+        Ok(Kind::Rectangle) => "rectangle",
+        Ok(Kind::Fraction) => "fraction",
+        Ok(Kind::Fd) => "fd",
+        Err(_) => "unknown",
     })
 }
 
@@ -42,13 +43,14 @@ pub fn name<'a>(kind: u32) -> Part<'a>
 pub fn value<'a>(kind: u32, word: u64) -> Part<'a>
     ensures { said_part result ≡ value_of kind word }
 {
-    match Kind::from_type(kind) {
-        Some(Kind::Int) => int(word),
-        Some(Kind::Long | Kind::Fd) => long(word),
-        Some(Kind::Float) => Part::Bits(8, word),
-        Some(Kind::Double) => Part::Bits(16, word),
-        Some(Kind::Rectangle) => Part::Pair(word % (1 << 32), b'x', word / (1 << 32)),
-        Some(Kind::Fraction) => Part::Pair(word % (1 << 32), b'/', word / (1 << 32)),
+    let DoubleWord { low, high } = DoubleWord::from(word);
+    match Kind::try_from(kind) {
+        Ok(Kind::Int) => int(word),
+        Ok(Kind::Long | Kind::Fd) => long(word),
+        Ok(Kind::Float) => Part::Bits(8, word),
+        Ok(Kind::Double) => Part::Bits(16, word),
+        Ok(Kind::Rectangle) => Part::Pair(low, b'x', high),
+        Ok(Kind::Fraction) => Part::Pair(low, b'/', high),
         _ => Part::Decimal(word),
     }
 }

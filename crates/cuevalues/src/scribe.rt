@@ -5,7 +5,7 @@ ghost use Rattle.cuevalues.specs.Pages.{Laid, text_of};
 ghost use Rattle.cuevalues.specs.Parts.{said_part};
 ghost use Rattle.cuevalues.specs.Values.{Written, bracket as bracket_of, follows as follows_of, joins as joins_of, leaves as leaves_of, separator as separator_of, thing_text, writes};
 
-use crate::page::Page;
+use crate::page::{Full, Page};
 use crate::part::{Part, name, value};
 use std::alloc::{AllocError, Global};
 use tours::{Told, Visitor};
@@ -27,9 +27,9 @@ impl Visitor for Scribe {
 
     fn visit(&mut self, told: Told<'_>) -> Result<(), u32> {
         let start = self.page.len();
-        if let Err(number) = self.say(told) {
+        if let Err(full) = self.say(told) {
             self.page.truncate(start);
-            return Err(number);
+            return Err(u32::from(full));
         }
         self.joined = joins(self.joined, told);
         self.left = leaves(self.left, told);
@@ -56,7 +56,7 @@ impl Scribe {
     }
 
     // Adds the text of a told thing.
-    fn say(&mut self, told: Told<'_>) -> Result<(), u32>
+    fn say(&mut self, told: Told<'_>) -> Result<(), Full>
         ensures says { Laid (text_of self.old.page) (thing_text self.old.joined self.old.left (thing told.entry)) result (text_of self.new.page) }
         ensures same { (self.new.joined ≡ self.old.joined) × (self.new.left ≡ self.old.left) }
     {

@@ -9,21 +9,6 @@ use refusals::Refusal;
 use std::alloc::{AllocError, Global};
 use tours::fill;
 
-const BLANK: Row = Row {
-    place: 0,
-    total: 0,
-    kind: 0,
-    child: 0,
-    parent: 0,
-    key: 0,
-    flags: 0,
-    locked: 0,
-    count: 0,
-    side: 0,
-    bits: 0,
-    word: 0,
-};
-
 // One row: its number, place, kind, total, key and word.
 fn row_line(heap: Global, i: usize, row: &Row) -> Result<String, AllocError>
     ensures { IfOk result (λ s. string_bytes s ≡ row_line i row.now) }
@@ -48,10 +33,7 @@ fn end_line(heap: Global, used: usize) -> Result<String, AllocError>
 fn refused_line(heap: Global, refusal: Refusal) -> Result<String, AllocError>
     ensures { IfOk result (λ s. string_bytes s ≡ refused_line refusal) }
 {
-    let number = refusal.why.number();
-    let place = refusal.spot.place;
-    let depth = refusal.spot.depth;
-    format!(in heap; "refused {number} {place} {depth}\n")
+    format!(in heap; "{refusal}\n")
 }
 
 // A line for each row.
@@ -70,7 +52,7 @@ fn row_lines(heap: Global, rows: &[Row]) -> Result<String, AllocError>
 pub fn listing(heap: Global, bytes: &[u8]) -> Result<String, AllocError>
     ensures { IfOk result (λ s. string_bytes s ≡ listing_of bytes.now) }
 {
-    let mut rows = [BLANK; 512];
+    let mut rows = [Row::default(); 512];
     match fill(bytes, &mut rows) {
         Ok(found) => {
             let count = found.rows.min(512);

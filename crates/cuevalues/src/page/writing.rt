@@ -4,15 +4,10 @@ ghost use Rattle.cuevalues.specs.Hex.{digit_of, digits_of};
 ghost use Rattle.cuevalues.specs.Parts.{bits_of, said, said_part};
 ghost use Rattle.cuevalues.specs.Pages.{Laid, text_of};
 
-use super::Page;
+use super::{Full, Page, ROOM};
 use crate::part::Part;
+use itoa::Buffer;
 use std::alloc::{AllocError, Global};
-
-// The most bytes of a page.
-const ROOM: usize = 262_144;
-
-// The refusal of what does not fit.
-const FULL: u32 = 1;
 
 // The digit that stands for a number below 16.
 fn digit(value: u8) -> u8
@@ -55,80 +50,60 @@ impl Page {
         self.text.truncate(n);
     }
 
-    fn put(&mut self, byte: u8) -> Result<(), u32>
-        ensures { Laid (text_of self.old) (byte ∷ []) result (text_of self.new) }
-    {
-        if self.text.len() >= ROOM {
-            return Err(FULL);
-        }
-        match self.text.push(byte) {
-            Ok(()) => Ok(()),
-            Err(_) => Err(FULL),
-        }
-    }
-
-    fn words(&mut self, words: &[u8]) -> Result<(), u32>
+    // Kept: no `impl fmt::Write`, whose contract lets any write fail, while these say exactly which bytes do not fit.
+    fn words(&mut self, words: &[u8]) -> Result<(), Full>
         ensures { Laid (text_of self.old) words.now result (text_of self.new) }
     {
         if words.len() > ROOM - self.text.len() {
-            return Err(FULL);
+            return Err(Full);
         }
-        match self.text.extend_from_slice(words) {
-            Ok(()) => Ok(()),
-            Err(_) => Err(FULL),
-        }
+        self.text.extend_from_slice(words).unwrap();
+        Ok(())
     }
 
-    fn decimal(&mut self, n: u64) -> Result<(), u32>
+    fn decimal(&mut self, n: u64) -> Result<(), Full>
         ensures { Laid (text_of self.old) (decimal_of n) result (text_of self.new) }
     {
-        if n < 10 {
-            return self.put(b'0' + n as u8);
-        }
-        self.decimal(n / 10)?;
-        self.put(b'0' + (n % 10) as u8)
+        self.words(Buffer::new().format(n).as_bytes())
     }
 
     // The last `count` hexadecimal digits of a number.
-    fn bits(&mut self, count: u32, n: u64) -> Result<(), u32>
+    fn bits(&mut self, count: u32, n: u64) -> Result<(), Full>
         ensures { Laid (text_of self.old) (bits_of count n) result (text_of self.new) }
     {
         if count == 0 {
             return Ok(());
         }
         self.bits(count - 1, n / 16)?;
-        self.put(digit((n % 16) as u8))
+        self.words(&[digit((n % 16) as u8)])
     }
 
     // Two digits for each byte.
-    fn hex(&mut self, bytes: &[u8]) -> Result<(), u32>
+    fn hex(&mut self, bytes: &[u8]) -> Result<(), Full>
         ensures { Laid (text_of self.old) (digits_of bytes.now) result (text_of self.new) }
     {
-        let mut rest = bytes;
-        while let [byte, left @ ..] = rest {
-            self.put(digit(*byte / 16))?;
-            self.put(digit(*byte % 16))?;
-            rest = left;
+        for byte in bytes {
+            self.words(&[digit(*byte / 16), digit(*byte % 16)])?;
         }
         Ok(())
     }
 
-    fn minus(&mut self, n: u64) -> Result<(), u32>
+    fn minus(&mut self, n: u64) -> Result<(), Full>
         ensures { Laid (text_of self.old) (45 ∷ decimal_of n) result (text_of self.new) }
     {
-        self.put(b'-')?;
+        self.words(b"-")?;
         self.decimal(n)
     }
 
-    fn pair(&mut self, first: u64, between: u8, second: u64) -> Result<(), u32>
+    fn pair(&mut self, first: u32, between: u8, second: u32) -> Result<(), Full>
         ensures { Laid (text_of self.old) (said_part (Part.Pair first between second)) result (text_of self.new) }
     {
-        self.decimal(first)?;
-        self.put(between)?;
-        self.decimal(second)
+        self.decimal(u64::from(first))?;
+        self.words(&[between])?;
+        self.decimal(u64::from(second))
     }
 
-    fn lay(&mut self, part: Part<'_>) -> Result<(), u32>
+    fn lay(&mut self, part: Part<'_>) -> Result<(), Full>
         ensures { Laid (text_of self.old) (said_part part.entry) result (text_of self.new) }
     {
         match part {
@@ -141,14 +116,12 @@ impl Page {
         }
     }
 
-    // Writes the parts, or refuses with 1 where they do not fit; some of them may then be written.
-    pub fn lay_all(&mut self, parts: &[Part<'_>]) -> Result<(), u32>
+    // Writes the parts, or says that they do not fit; some of them may then be written.
+    pub fn lay_all(&mut self, parts: &[Part<'_>]) -> Result<(), Full>
         ensures { Laid (text_of self.old) (said parts.now) result (text_of self.new) }
     {
-        let mut rest = parts;
-        while let [part, left @ ..] = rest {
+        for part in parts {
             self.lay(*part)?;
-            rest = left;
         }
         Ok(())
     }

@@ -11,8 +11,8 @@ returns-in-Err c =
     let mid = text_of c.say.new.self.page in
     record {
       does =
-          full (text_of self.page) self.joined self.left (thing c.args.told) c.in-Err.number mid (text_of c.truncate.new.self) c.say.new.self.joined c.say.new.self.left
-          c.in-Err.ensures.says (c.truncate.ensures ∙ ap (λ k. take k mid) c.len-start.ensures) c.in-Err.ensures.same.0 c.in-Err.ensures.same.1;
+          full (text_of self.page) self.joined self.left (thing c.args.told) c.in-Err.full mid (text_of c.truncate.new.self) c.say.new.self.joined c.say.new.self.left c.from.result
+          c.in-Err.ensures.says (c.truncate.ensures ∙ ap (λ k. take k mid) c.len-start.ensures) c.in-Err.ensures.same.0 c.in-Err.ensures.same.1 c.from.ensures;
       keeps = refl;
     }
 
