@@ -1,9 +1,10 @@
 -- Lines so far, and one line more. Assumes nothing.
-use Rattle.std.proofs.Common.{◌≡◌, ℕ, ◌+◌, ◌<◌, ◌≤◌, min, Bool, true, false, cond, ltb, List, [], ◌∷◌, ◌++◌, length, get_or, take, drop, Ok, Err, Result, sym, refl, ap, ◌∙◌, append_assoc, append-nil, arith}
-use Rattle.std.proofs.lemmas.List.{length-take-le, take_all, take_at, take_more}
+use Rattle.std.proofs.Common.{◌≡◌, ℕ, ◌+◌, ◌<◌, min, Bool, true, false, cond, ltb, List, [], ◌∷◌, ◌++◌, length, get_or, take, drop, Ok, Err, Result, sym, refl, ap, ◌∙◌, append_assoc, append-nil, arith}
+use Rattle.std.proofs.lemmas.List.{length-take-le, take_at, take_more}
 use Rattle.std.proofs.lemmas.Bool.{ltb-false}
 use Rattle.refusals.specs.declared.Refusal.{Refusal}
 use Rattle.refusals.specs.declared.Why.TheVariants.{TooManyRows}
+use Rattle.refusals.specs.Refusals.{refusal_text}
 use Rattle.pods.specs.declared.reading.Surveyed.{Surveyed}
 use Rattle.pods.specs.declared.rows.Row.{Row}
 use Rattle.pods.specs.Outcomes.{Outcome, gave, refused}
@@ -14,24 +15,18 @@ use Rattle.tours.specs.Filled.{filled_by}
 use Rattle.listing.specs.Listing.{end_line, listed, refused_line, row_line, row_lines}
 
 -- a row at the end is a line at the end
-pub line_last : (i : ℕ) (rs : List Row) (r : Row) → row_lines i (rs ++ r ∷ []) ≡ row_lines i rs ++ row_line (i + length rs) r
+line_last : (i : ℕ) (rs : List Row) (r : Row) → row_lines i (rs ++ r ∷ []) ≡ row_lines i rs ++ row_line (i + length rs) r
 line_last i [] r = append-nil (row_line i r) ∙ ap (λ k. row_line k r) (omega arith)
 line_last i (x ∷ rs) r =
     ap (λ l. row_line i x ++ l) (line_last (i + 1) rs r)
     ∙ sym (append_assoc (row_line i x) (row_lines (i + 1) rs) (row_line (i + 1 + length rs) r))
     ∙ ap (λ k. (row_line i x ++ row_lines (i + 1) rs) ++ row_line k r) (omega arith)
 
-pub line_more : (rs : List Row) (i : ℕ) (d : Row) (all line both : List ℕ) → i < length rs → all ≡ row_lines 0 (take i rs) → line ≡ row_line i (get_or rs i d) → both ≡ all ++ line → both ≡ row_lines 0 (take (i + 1) rs)
-line_more rs i d all line both inside so here joined =
+pub line_more : (rs : List Row) (i : ℕ) (d : Row) (line : List ℕ) → i < length rs → line ≡ row_line i (get_or rs i d) → row_lines 0 (take (i + 1) rs) ≡ row_lines 0 (take i rs) ++ line
+line_more rs i d line inside here =
     let counted : 0 + length (take i rs) ≡ i = omega (arith, length-take-le i rs (omega arith)) in
-    joined
-    ∙ ap (λ l. l ++ line) so
-    ∙ ap (λ l. row_lines 0 (take i rs) ++ l) (here ∙ ap (λ k. row_line k (get_or rs i d)) (sym counted))
-    ∙ sym (line_last 0 (take i rs) (get_or rs i d))
-    ∙ ap (λ l. row_lines 0 l) (sym (take_more rs i d inside))
-
-pub lines_all : (rs : List Row) (i : ℕ) (all : List ℕ) → length rs ≤ i → all ≡ row_lines 0 (take i rs) → all ≡ row_lines 0 rs
-lines_all rs i all past so = so ∙ ap (λ l. row_lines 0 l) (take_all i rs past)
+    ap (row_lines 0) (take_more rs i d inside) ∙ line_last 0 (take i rs) (get_or rs i d)
+    ∙ ap (λ l. row_lines 0 (take i rs) ++ l) (ap (λ k. row_line k (get_or rs i d)) counted ∙ sym here)
 
 -- a refusal, and the table as it was, or the rows at its front
 abbrev either : Bool → (rs table : List Row) → ℕ → Refusal → Result Surveyed Refusal × List Row
@@ -61,3 +56,7 @@ listed_rows (gave t used) table table' found n all last both room answer filled 
     let many : Refusal = record { why = TooManyRows; spot = spot_at 0 1 } in
     ended (ltb 512 (length (rows_in t))) (rows_in t) table table' used found many n all last both refl
     (answer ∙ ap (λ b. (either b (rows_in t) table used many).0) few) (filled ∙ ap (λ b. (either b (rows_in t) table used many).1) few) counted lines end joined
+
+-- the text of a refusal, and the end of the line
+pub refused_written : (e : Refusal) → refusal_text e ++ 10 ∷ [] ≡ refused_line e
+refused_written e = simp append_assoc

@@ -30,6 +30,7 @@ fn end_line(heap: Global, used: usize) -> Result<String, AllocError>
     format!(in heap; "end {used}\n")
 }
 
+#[tactic(auto, using(crate::proofs::Lines::refused_written))]
 fn refused_line(heap: Global, refusal: Refusal) -> Result<String, AllocError>
     ensures { IfOk result (λ s. string_bytes s ≡ refused_line refusal) }
 {
