@@ -1,38 +1,30 @@
 -- A sequence, byte by byte. Assumes nothing.
-use Rattle.std.proofs.Common.{◌≡◌, ℕ, suc, ◌+◌, ◌-◌, ◌<◌, ◌≤◌, Bool, true, false, ◌&&◌, List, [], ◌∷◌, ◌++◌, length, replicate, Some, None, Option, sym, refl, ap, subst, ◌∙◌, append-nil, arith, MatchOption}
+use Rattle.std.proofs.Common.{◌≡◌, ℕ, suc, ◌+◌, ◌-◌, ◌<◌, ◌≤◌, Bool, true, false, ◌&&◌, List, [], ◌∷◌, ◌++◌, length, replicate, Some, None, Option, sym, refl, ap, ◌∙◌, append-nil, arith, MatchOption}
+use Rattle.std.specs.Borrow.{Bor}
 use Rattle.std.specs.Bool.{then_some}
 use Rattle.std.proofs.lemmas.List.{nil_from_length}
 use Rattle.std.proofs.lemmas.Bool.{lt-ltb}
 use Rattle.std.proofs.lemmas.Bool.Decides.{nat_tests}
-use Rattle.utf8.specs.Reading.{Lacks, Leaves, class_of, classed, counted, followers_of, spans, due_after}
+use Rattle.utf8.specs.Reading.{Lacks, Takes, class_of, classed, counted, followers_of, spans, due_after}
 use Rattle.utf8.specs.Table37.{Span, span, tail, within, table, find, begun, formed, well_formed}
-
--- what holds of a value that is there where a test is true
-pub by_test : {A : Type 0} (b : Bool) (x : A) (o : Option A) (P : Type 0) (Q : A → Type 0) → o ≡ then_some b x → (b ≡ false → P) → (b ≡ true → Q x) → MatchOption o P Q
-by_test {A} true x o P Q e f g = subst (λ (o : Option A). MatchOption o P Q) (sym e) (g refl)
-by_test {A} false x o P Q e f g = subst (λ (o : Option A). MatchOption o P Q) (sym e) (f refl)
 
 -- the byte that is due at the front of a text
 pub missing : (text : List ℕ) (s : Span) → length text ≡ 0 → Lacks (s ∷ []) text
 unfolding formed
 missing text s h others = ap (λ bs. formed bs (s ∷ others)) (nil_from_length text h)
 
-module _ (text : List ℕ) (s : Span) (b : ℕ) (rest : List ℕ) where
-  pub inside : text ≡ b ∷ rest → within s b ≡ true → Leaves (s ∷ []) text rest
-  unfolding formed
-  inside e w others = ap (λ bs. formed bs (s ∷ others)) e ∙ ap (λ y. y && formed rest others) w
-
-  pub outside : text ≡ b ∷ rest → within s b ≡ false → Lacks (s ∷ []) text
-  unfolding formed
-  outside e w others = ap (λ bs. formed bs (s ∷ others)) e ∙ ap (λ y. y && formed rest others) w
+pub takes_one : (text : List ℕ) (s : Span) (b : ℕ) (rest : Bor (List ℕ)) (has : Bool) (left : Option (Bor (List ℕ))) → text ≡ b ∷ rest.now → has ≡ within s b → left ≡ then_some has rest → Takes (s ∷ []) text left
+unfolding formed
+takes_one text s b rest has left whole same is = rw (is, whole, same) (by (within s b) refl)
+  where
+    by : (y : Bool) → within s b ≡ y → Takes (s ∷ []) (b ∷ rest.now) (then_some y rest)
+    by true e = (omega arith, λ others. ap (λ y. y && formed rest.now others) e)
+    by false e = λ others. ap (λ y. y && formed rest.now others) e
 
 -- the tails that are due once i of them were read
 module _ (text : List ℕ) (count i : ℕ) (others : List Span) where
   pub next_due : i < count → formed text (replicate (count - i) tail ++ others) ≡ formed text (tail ∷ (replicate (count - (i + 1)) tail ++ others))
   next_due h = let e : count - i ≡ suc (count - (i + 1)) = omega arith in ap (λ (n : ℕ). formed text (replicate n tail ++ others)) e
-
-  pub none_due : count ≤ i → formed text (replicate (count - i) tail ++ others) ≡ formed text others
-  none_due h = let e : count - i ≡ 0 = omega arith in ap (λ (n : ℕ). formed text (replicate n tail ++ others)) e
 
 -- where a line was found, its class says how many bytes follow
 class_counted : (line : Option (List Span)) (n : ℕ) → counted line ≡ Some n → n ≡ classed line

@@ -1,9 +1,9 @@
 -- Table 3-7 accepts what std calls text, and nothing else. Assumes nothing.
-use Rattle.std.proofs.Common.{◌≡◌, ℕ, zero, suc, ◌+◌, ◌-◌, ◌*◌, ◌/◌, ◌<◌, ◌≤◌, Bool, true, false, cond, ◌&&◌, leb, ◌⊎◌, List, [], ◌∷◌, ◌++◌, length, Some, IsUtf8, sym, refl, ap, ◌∙◌, inl, inr, ⊎_elim, arith}
+use Rattle.std.proofs.Common.{◌≡◌, ℕ, zero, suc, ◌+◌, ◌-◌, ◌*◌, ◌/◌, ◌<◌, ◌≤◌, Bool, true, false, cond, ◌&&◌, leb, ◌⊎◌, List, [], ◌∷◌, ◌++◌, length, Some, IsUtf8, Decides, sym, refl, ap, ◌∙◌, inl, inr, ⊎_elim, arith}
 use mathlib.Core.Bool.{false≢true}
 use lib.Utf8.{scalar, scalars, next, encode, encodes, scalar_cases}
 use Rattle.std.proofs.lemmas.Bool.{leb-true, lt-ltb, le-ltb, le-leb, and_parts, cases_lt}
-use Rattle.std.proofs.lemmas.Bool.Decides.{nat_tests}
+use Rattle.std.proofs.lemmas.Bool.Decides.{nat_tests, Decides-at}
 use Rattle.utf8.specs.Table37.{Span, span, tail, within, Line, table, find, begun, formed, well_formed, TextIsUtf8}
 
 -- a character's bytes, by how many they are
@@ -244,3 +244,7 @@ encoded (c ∷ cs) e =
 
 pub text_is_utf8 : TextIsUtf8
 text_is_utf8 bytes = (text (length bytes) bytes (omega arith), λ u. ap well_formed (sym u.1.1) ∙ encoded u.0 u.1.0)
+
+-- a test that answers as the table does tells text from other bytes
+pub decided : (answer : Bool) (bytes : List ℕ) → answer ≡ well_formed bytes → Decides answer (IsUtf8 bytes)
+decided answer bytes same = Decides-at answer (well_formed bytes) same (text_is_utf8 bytes)

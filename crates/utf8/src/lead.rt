@@ -18,6 +18,7 @@ const LEAD: [u8; 256] = [
 ];
 
 // The class of `lead`, from a table in which each entry is the class of its place.
+#[tactic(auto, using(crate::proofs::Classes::entry))]
 fn class_in(classes: &[u8; 256], lead: u8) -> u8
     requires { right_from 0 classes.now ≡ true }
     ensures { result ≡ class_of lead }

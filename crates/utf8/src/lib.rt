@@ -65,6 +65,7 @@ fn after_byte(bounds: Bounds, text: &[u8]) -> Option<&[u8]>
 }
 
 // What is left of `text` after `count` tails; nothing where one is missing.
+#[tactic(auto, using(crate::proofs::Steps::next_due))]
 fn after_tails(count: u8, text: &[u8]) -> Option<&[u8]>
     ensures { Takes (replicate count tail) text.now result }
 {
@@ -93,6 +94,7 @@ fn high_bits(word: u64) -> u64
 }
 
 // What is left after eight bytes, where all of them are ASCII.
+#[tactic(auto, using(crate::proofs::Ascii::ascii_eight))]
 fn after_word(text: &[u8]) -> Option<&[u8]>
     ensures { IfSome result (λ left. (length left.now < length text.now) × (well_formed text.now ≡ well_formed left.now)) }
 {
@@ -117,6 +119,7 @@ fn after_ascii(text: &[u8]) -> &[u8]
 }
 
 // Whether `text` is well-formed UTF-8.
+#[tactic(auto, unfolding(crate::specs::Table37::formed))]
 pub fn check(text: &[u8]) -> bool
     ensures table { result ≡ well_formed text.now }
     ensures text { Decides result (IsUtf8 text.now) }
