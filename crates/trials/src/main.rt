@@ -16,26 +16,27 @@
 mod trial;
 
 use std::io::{BufRead, BufReader};
-use trial::{Outcome, Untried, try_line};
+use trial::{Untried, try_line};
 
 // Tries all lines.
 fn run(rt: &HostRuntime) -> anyhow::Result<()> {
     let heap = rt.alloc();
-    let mut number = 0u64;
     let mut tried = 0u64;
     let mut differ = 0u64;
-    for line in BufReader::new(heap, rt.stdin())?.split(heap, b'\n') {
+    for (line, number) in BufReader::new(heap, rt.stdin())?
+        .split(heap, b'\n')
+        .zip(1u64..)
+    {
         // In a line that is no text the bad bytes are replaced, so that it is not read.
         let text = String::from_utf8_lossy(heap, &line?)?;
         let line = text.trim_end();
-        number = number.saturating_add(1);
         if line.is_empty() || line.starts_with('#') {
             continue;
         }
         tried = tried.saturating_add(1);
         match try_line(heap, line) {
-            Ok(Outcome::Agrees) => continue,
-            Ok(Outcome::Differs(answer)) => println!(rt; "{number}: {line}: {answer}")?,
+            Ok(None) => continue,
+            Ok(Some(answer)) => println!(rt; "{number}: {line}: {answer}")?,
             Err(Untried::Unread) => println!(rt; "{number}: {line}: not read")?,
             Err(Untried::OutOfMemory) => return Err(Untried::OutOfMemory.into()),
         }

@@ -19,12 +19,11 @@ enum Task {
     Text,
 }
 
+// What is found: the survey of a cue or its refusal, or whether the bytes are text.
 #[derive(Clone, Copy)]
 pub enum Answer {
-    Surveyed(Surveyed),
-    Refused(Refusal),
-    WellFormed,
-    IllFormed,
+    Cue(Result<Surveyed, Refusal>),
+    Text(bool),
 }
 
 // A task, the bytes that it is for, as digits, and the answer that is expected.
@@ -33,13 +32,6 @@ struct Trial<'a> {
     task: Task,
     digits: &'a str,
     expected: &'a str,
-}
-
-// Whether the answer found is the expected one.
-#[derive(Clone, Copy)]
-pub enum Outcome {
-    Agrees,
-    Differs(Answer),
 }
 
 // Why a line is not tried.
@@ -71,10 +63,10 @@ impl fmt::Display for Answer {
 
     fn fmt<W: fmt::Write>(&self, f: &mut fmt::Formatter<W>) -> fmt::Result {
         match self {
-            Answer::Surveyed(Surveyed { rows, used }) => write!(f, "rows {rows} used {used}"),
-            Answer::Refused(refusal) => write!(f, "{refusal}"),
-            Answer::WellFormed => f.write_str("yes"),
-            Answer::IllFormed => f.write_str("no"),
+            Answer::Cue(Ok(Surveyed { rows, used })) => write!(f, "rows {rows} used {used}"),
+            Answer::Cue(Err(refusal)) => write!(f, "{refusal}"),
+            Answer::Text(true) => f.write_str("yes"),
+            Answer::Text(false) => f.write_str("no"),
         }
     }
 }
@@ -99,17 +91,8 @@ impl Task {
         ensures { Right self bytes.now result }
     {
         match self {
-            Task::Survey => match survey(bytes) {
-                Ok(found) => Answer::Surveyed(found),
-                Err(refusal) => Answer::Refused(refusal),
-            },
-            Task::Text => {
-                if check(bytes) {
-                    Answer::WellFormed
-                } else {
-                    Answer::IllFormed
-                }
-            }
+            Task::Survey => Answer::Cue(survey(bytes)),
+            Task::Text => Answer::Text(check(bytes)),
         }
     }
 }
@@ -140,26 +123,22 @@ impl Trial<'_> {
         }
     }
 
-    // Whether the answer to it for `bytes` is the expected one.
-    fn outcome(self, heap: Global, bytes: &[u8]) -> Result<Outcome, Untried>
+    // The answer to it for `bytes`, where that is not the expected one.
+    fn other_answer(self, heap: Global, bytes: &[u8]) -> Result<Option<Answer>, Untried>
         requires { Given self.digits.now bytes.now }
         ensures { IfOk result (Judged self.entry.task self.entry.digits.now self.entry.expected.now bytes.now) }
     {
         let answer = self.task.answer(bytes);
         let shown = format!(in heap; "{answer}")?;
-        if shown.as_str() == self.expected {
-            Ok(Outcome::Agrees)
-        } else {
-            Ok(Outcome::Differs(answer))
-        }
+        Ok((shown.as_str() != self.expected).then_some(answer))
     }
 }
 
-// Tries a line.
-pub fn try_line(heap: Global, line: &str) -> Result<Outcome, Untried>
+// The answer that is found for a line, where that is not the expected one.
+pub fn try_line(heap: Global, line: &str) -> Result<Option<Answer>, Untried>
     ensures { IfOk result (Tried line.now) }
 {
     let trial = Trial::parse(line)?;
     let bytes = trial.bytes(heap)?;
-    trial.outcome(heap, &bytes)
+    trial.other_answer(heap, &bytes)
 }

@@ -50,6 +50,7 @@ impl Page {
         self.text.truncate(n);
     }
 
+    // Writes some bytes.
     // Kept: no `impl fmt::Write`, whose contract lets any write fail, while these say exactly which bytes do not fit.
     fn words(&mut self, words: &[u8]) -> Result<(), Full>
         ensures { Laid (text_of self.old) words.now result (text_of self.new) }
