@@ -12,7 +12,7 @@ pub struct Page {
     ghost few: { vec_len text ≤ 262144 },
 }
 
-// What does not fit on a page.
+// Says that some bytes do not fit on a page.
 #[derive(Clone, Copy)]
 pub struct Full;
 

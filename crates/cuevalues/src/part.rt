@@ -56,6 +56,7 @@ pub fn value<'a>(kind: u32, word: u64) -> Part<'a>
 }
 
 // The signed number that 32 bits stand for.
+// Kept: a word may be longer than 32 bits, and the definition says how it is then written, which a cast would not.
 fn int<'a>(word: u64) -> Part<'a>
     ensures { said_part result ≡ int_of word }
 {
@@ -70,9 +71,10 @@ fn int<'a>(word: u64) -> Part<'a>
 fn long<'a>(word: u64) -> Part<'a>
     ensures { said_part result ≡ long_of word }
 {
-    if word < 1 << 63 {
-        Part::Decimal(word)
+    let number = word.cast_signed();
+    if number < 0 {
+        Part::Minus(number.unsigned_abs())
     } else {
-        Part::Minus(u64::MAX - word + 1)
+        Part::Decimal(word)
     }
 }
