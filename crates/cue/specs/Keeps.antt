@@ -5,9 +5,9 @@ use Rattle.cue.specs.declared.held.Cue.{Cue}
 use Rattle.cue.specs.declared.opened.Opened.{Opened}
 use Rattle.histories.specs.Held.{Held, standing as rows_standing}
 use Rattle.refusals.specs.declared.Why.{Why}
-use Rattle.refusals.specs.declared.Why.TheVariants.{Shut, VisitorRefused}
+use Rattle.refusals.specs.declared.Why.TheVariants.{Shut}
 use Rattle.tours.specs.declared.stop.Stop.{Stop}
-use Rattle.tours.specs.declared.stop.Stop.TheVariants.{Bytes, Visitor}
+use Rattle.tours.specs.Stops.{why_of}
 
 abbrev pub held_of : Cue → Held
 held_of c = record { bytes = c.bytes.now; rows = c.rows.now; count = unwrap_or c.standing 0; opened = is_some c.standing }
@@ -24,11 +24,6 @@ standing_of h = cond h.opened (Some h.count) None
 abbrev pub Opens : Held → Result Opened Why → Type 0
 Opens h (Ok o) = (h.opened ≡ true) × (o.bytes.now ≡ h.bytes) × (o.rows.now ≡ rows_standing h)
 Opens h (Err why) = (h.opened ≡ false) × (why ≡ Shut)
-
--- why a tour ended early, as a call refuses
-abbrev pub why_of : Stop → Why
-why_of (Bytes e) = e.why
-why_of (Visitor n) = VisitorRefused n
 
 -- a tour's answer as that of a call
 abbrev pub told_of : Result ℕ Stop → Result ℕ Why

@@ -4,7 +4,7 @@ ghost use Rattle.tours.specs.Told.{Thing};
 ghost use Rattle.histories.specs.Held.{holding, refilled as refilled_of, relaid as relaid_of, IsValue, Looked, TouredBytes, TouredRows, WasReread, WasSet};
 ghost use Rattle.histories.specs.Histories.{Life};
 ghost use Rattle.cue.specs.Permits.{CanLay, Permitted, set_answer};
-ghost use Rattle.cue.specs.Keeps.{held_of, Lent, Opens, standing_of, why_of};
+ghost use Rattle.cue.specs.Keeps.{held_of, Lent, Opens, standing_of};
 
 use crate::held::Cue;
 use crate::opened::Opened;
@@ -15,7 +15,7 @@ use pods::Row;
 use refusals::Why;
 use settable::Value;
 use std::mem::replace;
-use tours::{Stop, Visitor, fill};
+use tours::{Visitor, fill};
 
 impl<'a> Cue<'a> {
     // Holding cannot refuse: what the check refuses is held shut and untouched.
@@ -133,7 +133,7 @@ impl<'a> Cue<'a> {
         ensures keeps { V.lent visitor.new ≡ V.lent visitor.old }
     {
         let cue = self.opened()?;
-        tours::tour_bytes(cue.bytes, visitor).map_err(refused)
+        tours::tour_bytes(cue.bytes, visitor).map_err(Why::from)
     }
 
     // The same from the rows that stand.
@@ -142,7 +142,7 @@ impl<'a> Cue<'a> {
         ensures keeps { V.lent visitor.new ≡ V.lent visitor.old }
     {
         let cue = self.opened()?;
-        tours::tour_rows(cue.bytes, cue.rows, visitor).map_err(refused)
+        tours::tour_rows(cue.bytes, cue.rows, visitor).map_err(Why::from)
     }
 
     // Whether the cue is open, and how many rows stand.
@@ -169,15 +169,5 @@ fn none<'a>() -> Cue<'a>
         bytes: &mut [],
         rows: &mut [],
         standing: None,
-    }
-}
-
-// Why a tour ended early, as a call refuses.
-fn refused(stop: Stop) -> Why
-    ensures { result ≡ why_of stop }
-{
-    match stop {
-        Stop::Visitor(number) => Why::VisitorRefused(number),
-        Stop::Bytes(refusal) => refusal.why,
     }
 }

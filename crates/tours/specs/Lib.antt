@@ -1,5 +1,6 @@
 pub mod Told
 pub mod Lead
+pub mod Stops
 pub mod Tours
 pub mod Stack
 pub mod RowsTold

@@ -1,8 +1,9 @@
 // Why a tour ends early.
 ghost use Rattle.std.specs.Prelude.{◌≡◌};
 ghost use Rattle.tours.specs.declared.stop.Stop.TheVariants.{Bytes, Visitor};
+ghost use Rattle.tours.specs.Stops.{why_of};
 
-use refusals::Refusal;
+use refusals::{Refusal, Why};
 
 // The bytes are refused, or the visitor refuses with a number of its own.
 #[derive(Clone, Copy, Debug, PartialEq, Eq)]
@@ -24,5 +25,17 @@ impl From<u32> for Stop {
 
     fn from(number: u32) -> Stop {
         Stop::Visitor(number)
+    }
+}
+
+// Why a tour ended early, as a call that leads it refuses.
+impl From<Stop> for Why {
+    ghost from_gives = { λ stop r. r ≡ why_of stop };
+
+    fn from(stop: Stop) -> Why {
+        match stop {
+            Stop::Bytes(refusal) => refusal.why,
+            Stop::Visitor(number) => Why::VisitorRefused(number),
+        }
     }
 }
