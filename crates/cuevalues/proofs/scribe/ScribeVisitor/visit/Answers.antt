@@ -1,4 +1,4 @@
-use Rattle.std.proofs.Common.{◌≤◌, length, take, refl, ap, ◌∙◌, arith}
+use Rattle.std.proofs.Common.{◌≡◌, ◌≤◌, length, take, refl, ap, ◌∙◌, arith}
 use Rattle.tours.specs.Told.{thing}
 use Rattle.cuevalues.specs.Pages.{text_of}
 use Rattle.cuevalues.specs.Values.{joins, leaves}
@@ -9,10 +9,11 @@ pub returns-in-Err : goal.returns-in-Err
 returns-in-Err c =
     let self = c.args.self.now in
     let mid = text_of c.say.new.self.page in
+    let cut : text_of c.truncate.new.self ≡ take (length (text_of self.page)) mid = cc in
     record {
       does =
           full (text_of self.page) self.joined self.left (thing c.args.told) c.in-Err.full mid (text_of c.truncate.new.self) c.say.new.self.joined c.say.new.self.left c.from.result
-          c.in-Err.ensures.says (c.truncate.ensures ∙ ap (λ k. take k mid) c.len-start.ensures) c.in-Err.ensures.same.0 c.in-Err.ensures.same.1 c.from.ensures;
+          c.in-Err.ensures.says cut c.in-Err.ensures.same.0 c.in-Err.ensures.same.1 c.from.ensures;
       keeps = refl;
     }
 
