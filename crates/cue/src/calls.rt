@@ -51,6 +51,8 @@ impl<'a> Cue<'a> {
     }
 
     // Lays a value at an element for a party: rigging is 1, stage management 2. A refusal changes nothing.
+    // Kept: that the slices stay those that were lent is said of each change, since an invariant cannot speak of the value before.
+    // Kept: the party is a number here, a rule for the call, so that another number can be refused.
     pub fn set(&mut self, party: u32, row: usize, element: usize, value: Value) -> Result<(), Why>
         ensures was { WasSet (held_of self.old) party row element value result (held_of self.new) }
         ensures lent { Lent self.old self.new }

@@ -53,6 +53,7 @@ fn row_lines(heap: Global, rows: &[Row]) -> Result<String, AllocError>
 pub fn listing(heap: Global, bytes: &[u8]) -> Result<String, AllocError>
     ensures { IfOk result (λ s. string_bytes s ≡ listing_of bytes.now) }
 {
+    // Kept: 512 rows is the rule of the program, and an array cannot run out of memory.
     let mut rows = [Row::default(); 512];
     match fill(bytes, &mut rows) {
         Ok(found) => {

@@ -126,6 +126,7 @@ fn container(
 {
     let mut rows = 0;
     let mut used = 0;
+    // Kept: how far a turn goes is what `pod` answers, so that no iterator gives the places.
     while used < len {
         let keyed = key_and_flags(holds, &input[used..], spot)?;
         let start = used + keyed;

@@ -1,4 +1,5 @@
 // One pod of a cue, as a row of a table; what a pod does not have is 0.
+// Kept: all fields are numbers, a rule for the table, which others than the survey may fill with any.
 #[derive(Clone, Copy, Debug, Default, PartialEq, Eq)]
 pub struct Row {
     // where its header stands

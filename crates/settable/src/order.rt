@@ -7,6 +7,7 @@ use std::num::{f32_from_bits_with_nan, f64_from_bits_with_nan};
 use words::DoubleWord;
 
 // Whether the value of word `a` is at most that of word `b`.
+// Kept: limits are words, and a derived order of Rectangle or Fraction would be another one than theirs.
 pub fn at_most(kind: Kind, a: u64, b: u64) -> bool
     ensures { result ≡ at_most kind a b }
 {
