@@ -17,6 +17,7 @@ pub trait Visitor {
     ghost rule: { Rule Held };
 
     // The memory that is lent to it, by the names of its references.
+    // Kept: each call that leads a visitor says that this stays, since an invariant cannot speak of the value before.
     ghost lent: { Self → List GName } = { λ _. [] };
 
     fn visit(&mut self, told: Told<'_>) -> Result<(), u32>
