@@ -18,7 +18,7 @@ POINTS = {
         ("number in a field that names a kind", r"\bkind: \d+|\.kind [!=]="),
         ("number, or a flag, as an answer's error or sort", r"-> Result<[^>]*, u\d+>|-> Result<bool|Err\(\d+\)"),
         ("flag in a struct", r"^\s*(pub(\(crate\))? )?[a-z_]+: bool,"),
-        ("number that stands for nothing", r"\bnone\(\)|\bwithin == 0|\.left (==|>) 0"),
+        ("number or value that stands for nothing", r"\bnone\(|\bwithin == 0|\.left (==|>) 0"),
     ],
     2: [
         ("halves of a word", r"0x1_0000_0000|4_294_967_296|1 << 32|2 \^ 32 \+|fn (low|high|split|joined)\b"),
@@ -46,7 +46,7 @@ POINTS = {
         ("bytes and row together", r"bytes: &\[u8\], row: Row"),
     ],
     6: [
-        ("buffer of a fixed length", r": \[\w+; \d+\]|\[BLANK; \d+\]"),
+        ("buffer of a fixed length", r"\[[\w:()]+; \d+\]"),
         ("length or count beside", r"^\s*(pub(\(crate\))? )?(len|count|at|within): (usize|u32),"),
     ],
     7: [

@@ -32,7 +32,7 @@ impl<'a> Cue<'a> {
         }
     }
 
-    // What is open of the cue.
+    // The bytes and the rows that stand, or a refusal where the cue is shut.
     fn opened(&self) -> Result<Opened<'_>, Why>
         ensures { Opens (held_of self.now) result }
     {
@@ -164,6 +164,7 @@ impl<'a> Cue<'a> {
 }
 
 // A cue of nothing, shut, which stands in while a cue is changed.
+// Kept: `mem::take` needs a public `Default`, by which anyone could make a cue that nobody lent.
 fn none<'a>() -> Cue<'a>
     ensures { result.standing ≡ Nothing }
 {

@@ -25,6 +25,7 @@ pub trait CanonicalFixedSizedPod: Sized {
         ensures { result ≡ kind };
 
     // The type number of its pods.
+    // Kept: a type of values has no value to convert, so that this and `size` are functions.
     fn type_number() -> u32
         ensures { result ≡ type_of kind }
     {

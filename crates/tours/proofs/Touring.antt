@@ -11,7 +11,7 @@ use Rattle.tours.specs.declared.open.Frame.{Frame}
 use Rattle.tours.specs.Told.{Thing, tells, told_by}
 use Rattle.tours.specs.ByteTold.{tree_told, Standing}
 use Rattle.tours.specs.declared.byte_tour.ByteTeller.{ByteTeller}
-use Rattle.tours.specs.BytesLeft.{Opened, to_tell}
+use Rattle.tours.specs.BytesLeft.{TellsAll, to_tell}
 use Rattle.tours.specs.Starts.{elements_left}
 use Rattle.tours.specs.Lead.{Rule, lead}
 use Rattle.std.proofs.lemmas.Bool.{le-ltb, ltb-false}
@@ -54,13 +54,13 @@ first_short bytes rows used e = accepted_short bytes rows used (sym e)
 pub first_stands : (bytes : List ℕ) (rows used : ℕ) (fs : List Frame) → gave rows used ≡ survey_of bytes → fs ≡ [] → ∥ Standing bytes 0 fs false ∥₁
 first_stands bytes rows used fs e none = let a = accepted bytes rows used e in ∣ (none, refl, (a.tree, a.laid, a.shallow)) ∣₁
 
-pub first_told : (s : ByteTeller) (rows used : ℕ) → gave rows used ≡ survey_of s.bytes.now → s.at ≡ 0 → s.keyed ≡ false → elements_left s.values ≡ [] → Opened (told_by s.bytes.now) (Ok s)
+pub first_told : (s : ByteTeller) (rows used : ℕ) → gave rows used ≡ survey_of s.bytes.now → s.at ≡ 0 → s.keyed ≡ false → elements_left s.values ≡ [] → TellsAll (told_by s.bytes.now) (Ok s)
 first_told s rows used e at keyed none =
     let a = accepted s.bytes.now rows used e in
     rw (told_by_lem s.bytes.now used a, none, at, keyed) (ap tree_told a.read)
 
 -- a tour goes as its teller's things lead
-pub tour_opened : {H : Type 0} (rule : Rule H) (h : H) (o : Outcome (List Thing)) (s : ByteTeller) → Opened o (Ok s) → tour rule h o ≡ ended (lead rule h (to_tell s))
+pub tour_opened : {H : Type 0} (rule : Rule H) (h : H) (o : Outcome (List Thing)) (s : ByteTeller) → TellsAll o (Ok s) → tour rule h o ≡ ended (lead rule h (to_tell s))
 tour_opened rule h (gave ts used) s e = ap (λ ts. ended (lead rule h ts)) (sym e)
 tour_opened rule h (refused x) s e = absurd e
 

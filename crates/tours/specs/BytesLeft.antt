@@ -12,8 +12,8 @@ abbrev pub to_tell : ByteTeller → List Thing
 to_tell s = elements_left s.values ++ place.to_tell s.bytes.now s.at s.open s.keyed
 
 -- a teller of bytes has all to tell that they tell, and refused bytes are refused
-abbrev pub Opened : Outcome (List Thing) → Result ByteTeller Refusal → Type 0
-Opened (gave ts used) (Ok s) = to_tell s ≡ ts
-Opened (gave ts used) (Err e) = ⊥
-Opened (refused e) (Ok s) = ⊥
-Opened (refused e) (Err e') = e' ≡ e
+abbrev pub TellsAll : Outcome (List Thing) → Result ByteTeller Refusal → Type 0
+TellsAll (gave ts used) (Ok s) = to_tell s ≡ ts
+TellsAll (gave ts used) (Err e) = ⊥
+TellsAll (refused e) (Ok s) = ⊥
+TellsAll (refused e) (Err e') = e' ≡ e

@@ -1,7 +1,6 @@
 -- A visitor's rule, and where it leads. Assumes nothing.
-use Rattle.std.specs.Prelude.{◌≡◌, ℕ, ◌+◌, ◌-◌, ◌^◌, min, List, [], ◌∷◌, Some, None, Ok, Err, Option, Result}
-use Rattle.tours.specs.declared.told.Told.{Told}
-use Rattle.tours.specs.Told.{Thing, thing}
+use Rattle.std.specs.Prelude.{◌≡◌, ℕ, ◌+◌, ◌-◌, ◌^◌, min, List, [], ◌∷◌, Ok, Err, Result}
+use Rattle.tours.specs.Told.{Thing}
 
 -- what a rule answers: what is then held, or a number of its own
 pub data Answer (H : Type 0) : Type 0 where
@@ -45,8 +44,3 @@ Ends (told_all h n) (Ok m) new = (m ≡ n) × (new ≡ h)
 Ends (told_all h n) (Err _) new = ⊥
 Ends (stopped h k) (Ok _) new = ⊥
 Ends (stopped h k) (Err m) new = (m ≡ k) × (new ≡ h)
-
--- the next of the things `ts`, after which `rest` is left
-abbrev pub Next : List Thing → Option Told → List Thing → Type 0
-Next ts None rest = ts ≡ []
-Next ts (Some t) rest = ts ≡ thing t ∷ rest

@@ -64,13 +64,13 @@ impl<'a> ByteTeller<'a> {
     ghost use Rattle.std.specs.Iterator.{YieldsFirstBy};
     ghost use Rattle.pods.specs.declared.holding.Holds.TheVariants.{Properties as PropertiesHeld};
     ghost use Rattle.tours.specs.ByteTold.{Due};
-    ghost use Rattle.tours.specs.BytesLeft.{Opened, to_tell};
+    ghost use Rattle.tours.specs.BytesLeft.{TellsAll, to_tell};
     ghost use Rattle.tours.specs.Starts.{elements_left};
     ghost use Rattle.tours.specs.Told.{thing, told_by};
 
     // Has all to tell that the bytes of a cue tell; bytes that the survey refuses are refused.
     fn new(bytes: &'a [u8]) -> Result<Self, Refusal>
-        ensures { Opened (told_by bytes.now) result }
+        ensures { TellsAll (told_by bytes.now) result }
     {
         survey(bytes)?;
         Ok(ByteTeller {
@@ -83,6 +83,7 @@ impl<'a> ByteTeller<'a> {
     }
 
     // Tells the key and flags of the property that is due.
+    // Kept: that no values are left holds only here, between values and the next pod, so that it is no invariant.
     fn name(&mut self) -> Option<Told<'a>>
         requires due { Due PropertiesHeld self.old.at self.old.«open» true }
         requires unnamed { self.old.keyed ≡ false }

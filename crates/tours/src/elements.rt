@@ -42,6 +42,7 @@ impl<'a> Elements<'a> {
     ghost use Rattle.tours.specs.Starts.{elements_left};
 
     // None of `bytes`.
+    // Kept: an iterator that is at its end, so that a teller asks one value, where an `Option` would make it ask two.
     pub fn none(bytes: &'a [u8]) -> Self
         ensures { elements_left result ≡ [] }
     {

@@ -34,8 +34,8 @@ impl From<Stop> for Why {
 
     fn from(stop: Stop) -> Why {
         match stop {
-            Stop::Bytes(refusal) => refusal.why,
-            Stop::Visitor(number) => Why::VisitorRefused(number),
+            Stop::Bytes(refused) => refused.why,
+            Stop::Visitor(own) => Why::VisitorRefused(own),
         }
     }
 }

@@ -104,9 +104,9 @@ impl ValueVisitor<'_> {
         }
     }
 
-    // Kept: that the rows stay those that were lent is said of each step, since a ghost field cannot speak of the value before.
-
     // Keeps what is told: a row for a pod, a property for the pod after it, and where a container ends.
+    // Kept: that the rows stay those that were lent is said of this and the three steps below, since an invariant cannot speak of the
+    // value before.
     fn keep(&mut self, told: Told<'_>) -> Result<(), Unkept>
         ensures keeps { self.new.rows.ghost_name ≡ self.old.rows.ghost_name }
         ensures does { Kept (fills (table_of self.old) (thing told.entry)) (numbered result) (table_of self.old) (table_of self.new) }

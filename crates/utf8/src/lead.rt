@@ -2,7 +2,8 @@
 ghost use Rattle.std.specs.Prelude.{◌≡◌, true};
 ghost use Rattle.utf8.specs.Reading.{class_of, followers_of, right_from};
 
-// The class of each byte.
+// The class of each byte: how many bytes follow it, or 4 where no sequence begins with it.
+// Kept: a rule of the project, that lead bytes are told apart by a constant table of 256 numbers.
 const LEAD: [u8; 256] = [
     0, 0, 0, 0, 0, 0, 0, 0, 0, 0, 0, 0, 0, 0, 0, 0, 0, 0, 0, 0, 0, 0, 0, 0, 0, 0, 0, 0, 0, 0, 0, 0,
     0, 0, 0, 0, 0, 0, 0, 0, 0, 0, 0, 0, 0, 0, 0, 0, 0, 0, 0, 0, 0, 0, 0, 0, 0, 0, 0, 0, 0, 0, 0, 0,
@@ -26,7 +27,7 @@ fn class_in(classes: &[u8; 256], lead: u8) -> u8
     classes[lead as usize]
 }
 
-// How many bytes follow `lead`; none where no sequence begins with it.
+// How many bytes follow `lead`, or `None` where no sequence begins with it.
 pub fn followers(lead: u8) -> Option<u8>
     ensures { result ≡ followers_of lead }
 {

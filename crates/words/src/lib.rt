@@ -24,6 +24,7 @@ fn word(bytes: [u8; 4]) -> u32
 }
 
 // The two words at the front of `input`, or nothing where fewer than eight bytes are there.
+// Kept: a rule of the project, that a header is taken by one pattern which names its eight bytes.
 pub fn two_words(input: &[u8]) -> Option<Pair<'_>>
     ensures { MatchOption result (length input.now < 8) (λ p. Halves input.now p.first p.second p.rest.now) }
 {
