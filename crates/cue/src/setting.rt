@@ -24,6 +24,7 @@ impl Pod<'_> {
     }
 
     // The word to lay, which is the value's, or the first check of the value that refuses.
+    // Kept: the word is a parameter, as `set` says of every value that it is given, also of a refused one, that its word fits.
     pub fn checked(
         self,
         party: Party,

@@ -83,7 +83,7 @@ impl<'a> ByteTeller<'a> {
     }
 
     // Tells the key and flags of the property that is due.
-    // Kept: that no values are left holds only here, between values and the next pod, so that it is no invariant.
+    // Kept: that no values are left holds only before the next pod, so that it is no invariant; this, `take` and `next_row` ask it.
     fn name(&mut self) -> Option<Told<'a>>
         requires due { Due PropertiesHeld self.old.at self.old.«open» true }
         requires unnamed { self.old.keyed ≡ false }

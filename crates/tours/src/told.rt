@@ -1,5 +1,6 @@
 // One thing that a cue tells; types are numbers, and text (without its closing zero) and raw bytes are parts of the cue.
-// Kept: a type is a number and no `PodType`, since rows that no survey gave may have any number; an element's is one as all are.
+// Kept: a type is a number and no `PodType`, since rows that no survey gave may have any number; an element's type is a
+// number too, so that all told types are of one sort.
 #[derive(Clone, Copy)]
 pub enum Told<'a> {
     Fixed {

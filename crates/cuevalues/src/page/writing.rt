@@ -69,7 +69,7 @@ impl Page {
     }
 
     // The last `count` hexadecimal digits of a number.
-    // Kept: `{:x}` and `hex::encode_to_slice` write into something else first, and can fail by their contracts.
+    // Kept: for these and those of `hex`, `{:x}` and `hex::encode_to_slice` write into something else first, and can fail by their contracts.
     fn bits(&mut self, count: u32, n: u64) -> Result<(), Full>
         ensures { Laid (text_of self.old) (bits_of count n) result (text_of self.new) }
     {
