@@ -15,6 +15,7 @@ mod scribe;
 use hex::FromHexError;
 use pods::survey;
 use scribe::Scribe;
+use std::alloc::AllocError;
 use std::io::{BufRead, BufReader};
 use tours::tour_bytes;
 
@@ -45,7 +46,7 @@ fn run(rt: &HostRuntime) -> anyhow::Result<()> {
     for line in BufReader::new(heap, rt.stdin())?.split(heap, b'\n') {
         match hex::decode(heap, line?) {
             Ok(bytes) => show(rt, &bytes)?,
-            Err(e @ FromHexError::OutOfMemory) => return Err(e.into()),
+            Err(FromHexError::OutOfMemory) => return Err(AllocError.into()),
             Err(_) => println!(rt; "error not hex")?,
         }
     }

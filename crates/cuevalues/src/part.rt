@@ -13,7 +13,7 @@ pub enum Part<'a> {
     // with a minus sign
     Minus(u64),
     // two numbers and the byte between them
-    Pair(u32, u8, u32),
+    Pair(u64, u8, u64),
     // so many hexadecimal digits of a number
     Bits(u32, u64),
     // two hexadecimal digits for each byte
@@ -49,8 +49,8 @@ pub fn value<'a>(kind: u32, word: u64) -> Part<'a>
         Ok(Kind::Long | Kind::Fd) => long(word),
         Ok(Kind::Float) => Part::Bits(8, word),
         Ok(Kind::Double) => Part::Bits(16, word),
-        Ok(Kind::Rectangle) => Part::Pair(low, b'x', high),
-        Ok(Kind::Fraction) => Part::Pair(low, b'/', high),
+        Ok(Kind::Rectangle) => Part::Pair(u64::from(low), b'x', u64::from(high)),
+        Ok(Kind::Fraction) => Part::Pair(u64::from(low), b'/', u64::from(high)),
         _ => Part::Decimal(word),
     }
 }

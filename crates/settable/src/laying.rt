@@ -15,7 +15,12 @@ pub fn lay(kind: Kind, word: u64, body: &mut [u8]) -> Result<(), Why>
         return Err(Why::Missing);
     }
     let bytes = word.to_le_bytes();
-    body[..size].copy_from_slice(&bytes[..size]);
+    // Each size by its own copy, which is then one store; a kind of no bytes lays none.
+    match size {
+        4 => body[..4].copy_from_slice(&bytes[..4]),
+        8 => body[..8].copy_from_slice(&bytes),
+        _ => {}
+    }
     Ok(())
 }
 

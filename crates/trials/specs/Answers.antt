@@ -7,7 +7,7 @@ use Rattle.trials.specs.declared.trial.Answer.{Answer}
 use Rattle.trials.specs.declared.trial.Answer.TheVariants as answer
 use Rattle.trials.specs.declared.trial.Task.{Task}
 use Rattle.trials.specs.declared.trial.Task.TheVariants as task
-use Rattle.trials.specs.Hex.{Given}
+use Rattle.trials.specs.Hex.{AreBytes, Given}
 
 abbrev pub name_of : Task → List ℕ
 name_of task.Survey = codes "survey"
@@ -33,8 +33,8 @@ written (answer.Text false) = codes "no"
 
 -- the answer of a task for bytes that the digits spell is the expected one, or the other that is given
 abbrev pub Judged : Task → List ℕ → List ℕ → List ℕ → Option Answer → Type 0
-Judged task digits expected bytes None = Given digits bytes × ((a : Answer) × (Right task bytes a × (written a ≡ expected)))
-Judged task digits expected bytes (Some a) = Given digits bytes × (Right task bytes a × (written a ≢ expected))
+Judged task digits expected bytes None = AreBytes bytes × Given digits bytes × ((a : Answer) × (Right task bytes a × (written a ≡ expected)))
+Judged task digits expected bytes (Some a) = AreBytes bytes × Given digits bytes × (Right task bytes a × (written a ≢ expected))
 
 -- the same for the trial that a line spells
 abbrev pub Tried : List ℕ → Option Answer → Type 0

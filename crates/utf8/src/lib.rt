@@ -99,7 +99,10 @@ fn after_word(text: &[u8]) -> Option<&[u8]>
     ensures { IfSome result (λ left. (length left.now < length text.now) × (well_formed text.now ≡ well_formed left.now)) }
 {
     let (word, left) = text.split_first_chunk::<8>()?;
-    (high_bits(u64::from_le_bytes(*word)) == 0).then_some(left)
+    if high_bits(u64::from_le_bytes(*word)) != 0 {
+        return None;
+    }
+    Some(left)
 }
 
 // What is left after the ASCII bytes at the front.

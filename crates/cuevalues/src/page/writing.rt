@@ -97,12 +97,12 @@ impl Page {
         self.decimal(n)
     }
 
-    fn pair(&mut self, first: u32, between: u8, second: u32) -> Result<(), Full>
+    fn pair(&mut self, first: u64, between: u8, second: u64) -> Result<(), Full>
         ensures { Laid (text_of self.old) (said_part (Part.Pair first between second)) result (text_of self.new) }
     {
-        self.decimal(u64::from(first))?;
+        self.decimal(first)?;
         self.words(&[between])?;
-        self.decimal(u64::from(second))
+        self.decimal(second)
     }
 
     fn lay(&mut self, part: Part<'_>) -> Result<(), Full>
