@@ -1,5 +1,6 @@
 -- Right answers, and how they are written.
 use Rattle.std.specs.Prelude.{◌≡◌, ℕ, true, false, List, ◌∷◌, ◌++◌, Some, None, Ok, Err, codes, decimal, Option, ◌≢◌}
+use Rattle.hex.specs.Hex.{IsBytes}
 use Rattle.refusals.specs.Refusals.{refusal_text}
 use Rattle.utf8.specs.Table37.{well_formed}
 use Rattle.pods.specs.Survey.{answered, survey_of}
@@ -7,7 +8,7 @@ use Rattle.trials.specs.declared.trial.Answer.{Answer}
 use Rattle.trials.specs.declared.trial.Answer.TheVariants as answer
 use Rattle.trials.specs.declared.trial.Task.{Task}
 use Rattle.trials.specs.declared.trial.Task.TheVariants as task
-use Rattle.trials.specs.Hex.{AreBytes, Given}
+use Rattle.trials.specs.Hex.{Given}
 
 abbrev pub name_of : Task → List ℕ
 name_of task.Survey = codes "survey"
@@ -33,8 +34,8 @@ written (answer.Text false) = codes "no"
 
 -- the answer of a task for bytes that the digits spell is the expected one, or the other that is given
 abbrev pub Judged : Task → List ℕ → List ℕ → List ℕ → Option Answer → Type 0
-Judged task digits expected bytes None = AreBytes bytes × Given digits bytes × ((a : Answer) × (Right task bytes a × (written a ≡ expected)))
-Judged task digits expected bytes (Some a) = AreBytes bytes × Given digits bytes × (Right task bytes a × (written a ≢ expected))
+Judged task digits expected bytes None = IsBytes bytes × Given digits bytes × ((a : Answer) × (Right task bytes a × (written a ≡ expected)))
+Judged task digits expected bytes (Some a) = IsBytes bytes × Given digits bytes × (Right task bytes a × (written a ≢ expected))
 
 -- the same for the trial that a line spells
 abbrev pub Tried : List ℕ → Option Answer → Type 0

@@ -1,5 +1,5 @@
 -- Hexadecimal digits.
-use Rattle.std.specs.Prelude.{◌≡◌, ℕ, ◌+◌, ◌/◌, ◌%◌, ◌<◌, cond, ◌⊎◌, List, [], ◌∷◌, codes, get_or, nat_lt}
+use Rattle.std.specs.Prelude.{◌≡◌, ℕ, ◌+◌, ◌/◌, ◌%◌, cond, ◌⊎◌, List, [], ◌∷◌, codes, nat_lt}
 
 -- the digit that stands for a number below 16: 0 to 9, then a to f
 abbrev pub digit_of : ℕ → ℕ
@@ -9,10 +9,6 @@ digit_of v = cond (nat_lt v 10) (48 + v) (87 + v)
 abbrev pub digits_of : List ℕ → List ℕ
 digits_of [] = []
 digits_of (b ∷ bs) = digit_of (b / 16) ∷ digit_of (b % 16) ∷ digits_of bs
-
--- each number is that of a byte
-abbrev pub AreBytes : List ℕ → Type 0
-AreBytes bytes = (k : ℕ) → get_or bytes k 0 < 256
 
 -- the digits are those of the bytes, or a dash, which stands for no bytes
 abbrev pub Given : List ℕ → List ℕ → Type 0
